@@ -1,0 +1,14 @@
+-- `modes::sets::set_is_coherent` meets its contract. Assumes nothing.
+use borrow.Author.Needs.{needs}
+use Rattle.modes.proofs.sets.set_is_coherent.Statement.{statement}
+use Rattle.modes.proofs.sets.set_is_coherent.Tie as tie
+
+pub set-is-coherent-spec : {M : Type 1} → statement M
+set-is-coherent-spec =
+    tie.close
+    (tie.spec
+    (λ c. search needs)
+    (λ c. search needs)
+    (λ c κs. search needs)
+    (λ c. search needs)
+    (λ c. rw (c .before .before .s .given .1) (c .is-coherent .ensures)))

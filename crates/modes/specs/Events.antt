@@ -1,0 +1,161 @@
+-- The events, a line for each. Document 01, 'Event words'.
+use mathlib.Core.Bool.{Bool, true, false, not, _&&_, _||_, cond}
+use mathlib.Core.List.{List, [], _∷_}
+use Prim.Native.Nat.{ℕ}
+use lib.Dec.{eqb}
+use Rattle.modes.specs.declared.Vertical.{Vertical}
+use Rattle.modes.specs.declared.Modes.{Modes}
+use Rattle.modes.specs.declared.ModeSet.{ModeSet}
+use Rattle.modes.specs.declared.Event.{Event}
+use Rattle.modes.specs.declared.events.Shared.{Shared}
+use Rattle.modes.specs.declared.Event.the-variants.{ApDisconnect, ApSwitch, OverspeedBegins, OverspeedEnds, GoAround, Transfer, FdSwitchLeft, FdSwitchRight, SourceChanged, NavCaptured, LapprCaptured, VapprCaptured, AltselCaptured, AltselOnTrack, HdgSwitch, NavSwitch, ApprSwitch, VsSwitch, FlcSwitch, AltSwitch, NoEvent}
+use Rattle.modes.specs.Finite.{pick}
+use Rattle.modes.specs.Numbers.{verticalNumber}
+use Rattle.modes.specs.Sets.{Mode, ROLL, HDG, NAV, LAPPR, LGA, PITCH, VS, FLC, ALT, ALTSEL, VAPPR, VGA, engaged, armed, cleared, engagedIn, selectedIn, engage, arm, disarm, clear, withVertical}
+
+-- the events in the order of their numbers, from 0
+abbrev pub numbered : List Event
+numbered =
+    ApDisconnect ∷ ApSwitch ∷ OverspeedBegins ∷ OverspeedEnds ∷ GoAround ∷ Transfer ∷ FdSwitchLeft ∷ FdSwitchRight ∷ SourceChanged ∷ NavCaptured
+    ∷ LapprCaptured ∷ VapprCaptured ∷ AltselCaptured ∷ AltselOnTrack ∷ HdgSwitch ∷ NavSwitch ∷ ApprSwitch ∷ VsSwitch ∷ FlcSwitch ∷ AltSwitch ∷ []
+
+-- the event of a number; past 19 there is none
+abbrev pub eventAt : ℕ → Event
+eventAt n = pick NoEvent numbered n
+
+-- ---- what an event says of AP, the flag, PF and the flight directors, in the first step
+
+abbrev stays : Bool → Bool
+stays x = x
+
+abbrev off : Bool → Bool
+off x = false
+
+abbrev on : Bool → Bool
+on x = true
+
+abbrev toggles : Bool → Bool
+toggles x = not x
+
+abbrev keeps : ℕ → ℕ
+keeps s = s
+
+-- the other side of two
+abbrev pub otherSide : ℕ → ℕ
+otherSide s = cond (eqb s 0) 1 0
+
+-- whose FD switch is pressed
+abbrev nobody : ℕ → Bool
+nobody s = false
+
+abbrev left : ℕ → Bool
+left s = eqb s 0
+
+abbrev right : ℕ → Bool
+right s = eqb s 1
+
+-- when the active side's FD is set On: by AP, the flag and the active side's set as handed in
+abbrev never : Bool → Bool → ModeSet → Bool
+never ap flag s = false
+
+abbrev always : Bool → Bool → ModeSet → Bool
+always ap flag s = true
+
+abbrev whenApEngages : Bool → Bool → ModeSet → Bool
+whenApEngages ap flag s = not ap
+
+abbrev ifFlagClear : Bool → Bool → ModeSet → Bool
+ifFlagClear ap flag s = not flag
+
+abbrev unlessEngaged : Mode → Bool → Bool → ModeSet → Bool
+unlessEngaged x ap flag s = not (engagedIn x s)
+
+abbrev unlessSelected : Mode → Bool → Bool → ModeSet → Bool
+unlessSelected x ap flag s = not (selectedIn x s)
+
+-- ---- what an event does to an On set, in the third step: by the flag as handed in and the set that the second step left
+
+abbrev pub none : Bool → Modes → Modes
+none flag m = m
+
+unfoldable pub overspeed : Bool → Modes → Modes
+overspeed flag m = cond (flag || engaged ALT m || engaged ALTSEL m) m (engage FLC m)
+
+unfoldable pub goAround : Bool → Modes → Modes
+goAround flag m = engage VGA (engage LGA m)
+
+unfoldable pub clearArmed : Mode → Modes → Modes
+clearArmed x m = cond (armed x m) (clear x m) m
+
+unfoldable pub takeBasic : Bool → Modes → Modes
+takeBasic flag m = engage PITCH (engage ROLL (clearArmed VAPPR (clearArmed LAPPR (clearArmed NAV m))))
+
+unfoldable pub clearNavigation : Bool → Modes → Modes
+clearNavigation flag m = clear VAPPR (clear LAPPR (clear NAV m))
+
+-- engages if armed
+unfoldable pub capture : Mode → Bool → Modes → Modes
+capture x flag m = cond (armed x m) (engage x m) m
+
+unfoldable pub captureVappr : Bool → Modes → Modes
+captureVappr flag m = cond (armed VAPPR m && engaged LAPPR m && not flag) (engage VAPPR m) m
+
+-- ALTSEL in capture is vertical law 5
+unfoldable pub track : Bool → Modes → Modes
+track flag m = cond (eqb (verticalNumber (m .vertical)) 5) (withVertical Vertical.AltselTrack m) m
+
+-- engaged is cleared, else it engages
+unfoldable pub switch : Mode → Bool → Modes → Modes
+switch x flag m = cond (engaged x m) (clear x m) (engage x m)
+
+unfoldable pub switchNav : Bool → Modes → Modes
+switchNav flag m = cond (cleared NAV m) (arm NAV (clearArmed LAPPR m)) (clear NAV m)
+
+unfoldable pub switchAppr : Bool → Modes → Modes
+switchAppr flag m = cond (cleared LAPPR m) (arm VAPPR (arm LAPPR (disarm NAV m))) (clear LAPPR m)
+
+-- FLC engaged with the flag set stays
+unfoldable pub switchFlc : Bool → Modes → Modes
+switchFlc flag m = cond (engaged FLC m && flag) m (switch FLC flag m)
+
+-- ---- the table
+
+pub record Line : Type 0 where
+  pub ap : Bool → Bool
+  pub flag : Bool → Bool
+  pub pf : ℕ → ℕ
+  pub pressed : ℕ → Bool
+  pub asksFd : Bool → Bool → ModeSet → Bool
+  pub change : Bool → Modes → Modes
+
+abbrev line : (Bool → Bool) → (Bool → Bool) → (ℕ → ℕ) → (ℕ → Bool) → (Bool → Bool → ModeSet → Bool) → (Bool → Modes → Modes) → Line
+line a f p d q c = record { ap = a; flag = f; pf = p; pressed = d; asksFd = q; change = c }
+
+-- a line for each event; the columns are AP, the flag, PF, whose FD switch is pressed, when the active side's FD is set On, and the mode change
+abbrev pub lineOf : Event → Line
+lineOf ApDisconnect = line off stays keeps nobody never none
+lineOf ApSwitch = line toggles stays keeps nobody whenApEngages none
+lineOf OverspeedBegins = line stays on keeps nobody ifFlagClear overspeed
+lineOf OverspeedEnds = line stays off keeps nobody never none
+lineOf GoAround = line off stays keeps nobody always goAround
+lineOf Transfer = line stays stays otherSide nobody never takeBasic
+lineOf FdSwitchLeft = line stays stays keeps left never none
+lineOf FdSwitchRight = line stays stays keeps right never none
+lineOf SourceChanged = line stays stays keeps nobody never clearNavigation
+lineOf NavCaptured = line stays stays keeps nobody never (capture NAV)
+lineOf LapprCaptured = line stays stays keeps nobody never (capture LAPPR)
+lineOf VapprCaptured = line stays stays keeps nobody never captureVappr
+lineOf AltselCaptured = line stays stays keeps nobody never (capture ALTSEL)
+lineOf AltselOnTrack = line stays stays keeps nobody never track
+lineOf HdgSwitch = line stays stays keeps nobody (unlessEngaged HDG) (switch HDG)
+lineOf NavSwitch = line stays stays keeps nobody (unlessSelected NAV) switchNav
+lineOf ApprSwitch = line stays stays keeps nobody (unlessSelected LAPPR) switchAppr
+lineOf VsSwitch = line stays stays keeps nobody (unlessEngaged VS) (switch VS)
+lineOf FlcSwitch = line stays stays keeps nobody (unlessEngaged FLC) switchFlc
+lineOf AltSwitch = line stays stays keeps nobody (unlessEngaged ALT) (switch ALT)
+lineOf NoEvent = line stays stays keeps nobody never none
+
+-- ---- the first step, but for the flight directors
+
+unfoldable pub sharedAfter : Event → Shared → Shared
+sharedAfter e s = record { pf = lineOf e .pf (s .pf); ap = lineOf e .ap (s .ap); overspeed = lineOf e .flag (s .overspeed) }
