@@ -7,7 +7,7 @@ use Rattle.modes.specs.declared.Vertical.{Vertical}
 use Rattle.modes.specs.declared.Modes.{Modes}
 use Rattle.modes.specs.declared.ModeSet.{ModeSet}
 use Rattle.modes.specs.declared.Event.{Event}
-use Rattle.modes.specs.declared.events.Shared.{Shared}
+use Rattle.modes.specs.declared.Shared.{Shared}
 use Rattle.modes.specs.declared.Event.the-variants.{ApDisconnect, ApSwitch, OverspeedBegins, OverspeedEnds, GoAround, Transfer, FdSwitchLeft, FdSwitchRight, SourceChanged, NavCaptured, LapprCaptured, VapprCaptured, AltselCaptured, AltselOnTrack, HdgSwitch, NavSwitch, ApprSwitch, VsSwitch, FlcSwitch, AltSwitch, NoEvent}
 use Rattle.modes.specs.Finite.{pick}
 use Rattle.modes.specs.Numbers.{verticalNumber}
@@ -75,48 +75,52 @@ unlessSelected x ap flag s = not (selectedIn x s)
 
 -- ---- what an event does to an On set, in the third step: by the flag as handed in and the set that the second step left
 
-abbrev pub none : Bool → Modes → Modes
+-- a change that the flag has no part in
+abbrev pub either : (Modes → Modes) → Bool → Modes → Modes
+either f flag m = f m
+
+abbrev none : Bool → Modes → Modes
 none flag m = m
 
 unfoldable pub overspeed : Bool → Modes → Modes
 overspeed flag m = cond (flag || engaged ALT m || engaged ALTSEL m) m (engage FLC m)
 
-unfoldable pub goAround : Bool → Modes → Modes
-goAround flag m = engage VGA (engage LGA m)
+unfoldable pub goAround : Modes → Modes
+goAround m = engage VGA (engage LGA m)
 
 unfoldable pub clearArmed : Mode → Modes → Modes
 clearArmed x m = cond (armed x m) (clear x m) m
 
-unfoldable pub takeBasic : Bool → Modes → Modes
-takeBasic flag m = engage PITCH (engage ROLL (clearArmed VAPPR (clearArmed LAPPR (clearArmed NAV m))))
+unfoldable pub takeBasic : Modes → Modes
+takeBasic m = engage PITCH (engage ROLL (clearArmed VAPPR (clearArmed LAPPR (clearArmed NAV m))))
 
-unfoldable pub clearNavigation : Bool → Modes → Modes
-clearNavigation flag m = clear VAPPR (clear LAPPR (clear NAV m))
+unfoldable pub clearNavigation : Modes → Modes
+clearNavigation m = clear VAPPR (clear LAPPR (clear NAV m))
 
 -- engages if armed
-unfoldable pub capture : Mode → Bool → Modes → Modes
-capture x flag m = cond (armed x m) (engage x m) m
+unfoldable pub capture : Mode → Modes → Modes
+capture x m = cond (armed x m) (engage x m) m
 
 unfoldable pub captureVappr : Bool → Modes → Modes
 captureVappr flag m = cond (armed VAPPR m && engaged LAPPR m && not flag) (engage VAPPR m) m
 
 -- ALTSEL in capture is vertical law 5
-unfoldable pub track : Bool → Modes → Modes
-track flag m = cond (eqb (verticalNumber (m .vertical)) 5) (withVertical Vertical.AltselTrack m) m
+unfoldable pub track : Modes → Modes
+track m = cond (eqb (verticalNumber (m .vertical)) 5) (withVertical Vertical.AltselTrack m) m
 
 -- engaged is cleared, else it engages
-unfoldable pub switch : Mode → Bool → Modes → Modes
-switch x flag m = cond (engaged x m) (clear x m) (engage x m)
+unfoldable pub switch : Mode → Modes → Modes
+switch x m = cond (engaged x m) (clear x m) (engage x m)
 
-unfoldable pub switchNav : Bool → Modes → Modes
-switchNav flag m = cond (cleared NAV m) (arm NAV (clearArmed LAPPR m)) (clear NAV m)
+unfoldable pub switchNav : Modes → Modes
+switchNav m = cond (cleared NAV m) (arm NAV (clearArmed LAPPR m)) (clear NAV m)
 
-unfoldable pub switchAppr : Bool → Modes → Modes
-switchAppr flag m = cond (cleared LAPPR m) (arm VAPPR (arm LAPPR (disarm NAV m))) (clear LAPPR m)
+unfoldable pub switchAppr : Modes → Modes
+switchAppr m = cond (cleared LAPPR m) (arm VAPPR (arm LAPPR (disarm NAV m))) (clear LAPPR m)
 
 -- FLC engaged with the flag set stays
 unfoldable pub switchFlc : Bool → Modes → Modes
-switchFlc flag m = cond (engaged FLC m && flag) m (switch FLC flag m)
+switchFlc flag m = cond (engaged FLC m && flag) m (switch FLC m)
 
 -- ---- the table
 
@@ -137,22 +141,22 @@ lineOf ApDisconnect = line off stays keeps nobody never none
 lineOf ApSwitch = line toggles stays keeps nobody whenApEngages none
 lineOf OverspeedBegins = line stays on keeps nobody ifFlagClear overspeed
 lineOf OverspeedEnds = line stays off keeps nobody never none
-lineOf GoAround = line off stays keeps nobody always goAround
-lineOf Transfer = line stays stays otherSide nobody never takeBasic
+lineOf GoAround = line off stays keeps nobody always (either goAround)
+lineOf Transfer = line stays stays otherSide nobody never (either takeBasic)
 lineOf FdSwitchLeft = line stays stays keeps left never none
 lineOf FdSwitchRight = line stays stays keeps right never none
-lineOf SourceChanged = line stays stays keeps nobody never clearNavigation
-lineOf NavCaptured = line stays stays keeps nobody never (capture NAV)
-lineOf LapprCaptured = line stays stays keeps nobody never (capture LAPPR)
+lineOf SourceChanged = line stays stays keeps nobody never (either clearNavigation)
+lineOf NavCaptured = line stays stays keeps nobody never (either (capture NAV))
+lineOf LapprCaptured = line stays stays keeps nobody never (either (capture LAPPR))
 lineOf VapprCaptured = line stays stays keeps nobody never captureVappr
-lineOf AltselCaptured = line stays stays keeps nobody never (capture ALTSEL)
-lineOf AltselOnTrack = line stays stays keeps nobody never track
-lineOf HdgSwitch = line stays stays keeps nobody (unlessEngaged HDG) (switch HDG)
-lineOf NavSwitch = line stays stays keeps nobody (unlessSelected NAV) switchNav
-lineOf ApprSwitch = line stays stays keeps nobody (unlessSelected LAPPR) switchAppr
-lineOf VsSwitch = line stays stays keeps nobody (unlessEngaged VS) (switch VS)
+lineOf AltselCaptured = line stays stays keeps nobody never (either (capture ALTSEL))
+lineOf AltselOnTrack = line stays stays keeps nobody never (either track)
+lineOf HdgSwitch = line stays stays keeps nobody (unlessEngaged HDG) (either (switch HDG))
+lineOf NavSwitch = line stays stays keeps nobody (unlessSelected NAV) (either switchNav)
+lineOf ApprSwitch = line stays stays keeps nobody (unlessSelected LAPPR) (either switchAppr)
+lineOf VsSwitch = line stays stays keeps nobody (unlessEngaged VS) (either (switch VS))
 lineOf FlcSwitch = line stays stays keeps nobody (unlessEngaged FLC) switchFlc
-lineOf AltSwitch = line stays stays keeps nobody (unlessEngaged ALT) (switch ALT)
+lineOf AltSwitch = line stays stays keeps nobody (unlessEngaged ALT) (either (switch ALT))
 lineOf NoEvent = line stays stays keeps nobody never none
 
 -- ---- the first step, but for the flight directors

@@ -1,5 +1,5 @@
 -- The values of the types that sets and events are made of, the 240 representable On sets, and laws over all of them by computation. Assumes nothing.
-use mathlib.Core.Path.{_≡_, refl}
+use mathlib.Core.Path.{_≡_, refl, subst}
 use mathlib.Core.Bool.{Bool, true, false, _&&_, cond}
 use mathlib.Core.List.{List, [], _∷_}
 use Prim.Native.Nat.{ℕ}
@@ -193,8 +193,9 @@ same-modes m n t =
 pub agree : (f g : Modes → Modes) → T (everyModes (λ m. sameModes (f m) (g m))) → (m : Modes) → f m ≡ g m
 agree f g t m = same-modes (f m) (g m) (at-modes (λ m. sameModes (f m) (g m)) t m)
 
-pub agree-flag : (f g : Bool → Modes → Modes) → T (every (λ b. everyModes (λ m. sameModes (f b m) (g b m))) (all flags)) → (b : Bool) (m : Modes) → f b m ≡ g b m
-agree-flag f g t b m = agree (f b) (g b) (at flags (λ b. everyModes (λ m. sameModes (f b m) (g b m))) t b) m
+-- the same for a function that goes by a test
+pub agree-cases : (t : Modes → Bool) (f g h : Modes → Modes) → T (everyModes (λ m. sameModes (cond (t m) (f m) (g m)) (h m))) → (m : Modes) (b : Bool) → t m ≡ b → cond b (f m) (g m) ≡ h m
+agree-cases t f g h p m b e = subst (λ (b : Bool). cond b (f m) (g m) ≡ h m) e (agree (λ m. cond (t m) (f m) (g m)) h p m)
 
 pub agree-test : (f g : Modes → Bool) → T (everyModes (λ m. eqb (place-flags (f m)) (place-flags (g m)))) → (m : Modes) → f m ≡ g m
 agree-test f g t m = same-place flags (f m) (g m) (at-modes (λ m. eqb (place-flags (f m)) (place-flags (g m))) t m)

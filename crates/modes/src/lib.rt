@@ -1,6 +1,4 @@
 // Mode sets, the events that change them, and the numbers by which a display shows them.
-pub mod changes;
-pub mod events;
 pub mod numbers;
 pub mod sets;
 
@@ -68,4 +66,11 @@ pub enum Event {
     FlcSwitch,
     AltSwitch,
     NoEvent,
+}
+
+// What the two sides share and an event can change: the PF side, AP and the overspeed flag.
+pub struct Shared {
+    pub pf: u8,
+    pub ap: bool,
+    pub overspeed: bool,
 }

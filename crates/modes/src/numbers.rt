@@ -8,7 +8,7 @@ ghost use mathlib.Core.Path.{_≡_};
 ghost use Rattle.modes.specs.declared.ModeSet.{ModeSet};
 ghost use Rattle.modes.specs.Numbers.{lateralNumber, verticalNumber, lateralLaw, verticalLaw, armedSum, modeLamps, worth};
 ghost use Rattle.modes.specs.Sets.{armsNav, armsLappr};
-ghost use Rattle.modes.specs.Tables.{altselWaits, lateralLamps, verticalLamps};
+ghost use Rattle.modes.specs.Tables.{lateralLamps, verticalLamps};
 
 pub fn lateral_number(l: Lateral) -> u32
     ensures { λ res. ⌜ res ≡ lateralNumber l ⌝ }
@@ -83,21 +83,6 @@ pub fn arms_lappr(a: ArmedLateral) -> bool
     }
 }
 
-fn altsel_waits(v: Vertical) -> bool
-    ensures { λ res. ⌜ res ≡ altselWaits v ⌝ }
-{
-    match v {
-        Vertical::Pitch => true,
-        Vertical::Vs => true,
-        Vertical::Flc => true,
-        Vertical::Alt => false,
-        Vertical::AltselCapture => false,
-        Vertical::AltselTrack => false,
-        Vertical::Vappr => false,
-        Vertical::Vga => true,
-    }
-}
-
 // n where `lit` holds, as a part of a sum.
 pub fn worth(lit: bool, n: u32) -> u32
     ensures { λ res. ⌜ res ≡ worth lit n ⌝ }
@@ -112,7 +97,8 @@ fn armed_sum_on(m: Modes) -> u32
     let v = m.vertical;
     let nav = worth(arms_nav(a), 1);
     let lappr = worth(arms_lappr(a), 2);
-    let altsel = worth(altsel_waits(v), 4);
+    let law = vertical_number(v);
+    let altsel = worth((law <= 3) | (law == 8), 4);
     let vappr = worth(m.vappr_armed, 8);
     nav + lappr + altsel + vappr
 }

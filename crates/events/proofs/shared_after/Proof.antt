@@ -1,0 +1,60 @@
+-- `events::shared_after` meets its contract. Assumes nothing.
+use Rattle.modes.specs.Events.{sharedAfter}
+use borrow.Author.Needs.{needs}
+use Rattle.events.proofs.shared_after.Statement.{statement}
+use Rattle.events.proofs.shared_after.Tie as tie
+
+pub shared-after-spec : {M : Type 1} → statement M
+unfolding sharedAfter
+shared-after-spec =
+    tie.close
+    (tie.spec
+    (λ c. search needs)
+    (λ c κs. search needs)
+    (λ c. search needs)
+    (λ c κs. search needs)
+    (λ c. search needs)
+    (λ c κs. search needs)
+    (λ c. search needs)
+    (λ c κs. search needs)
+    (λ c. search needs)
+    (λ c κs. search needs)
+    (λ c. search needs)
+    (λ c κs. search needs)
+    (λ c κs. search needs)
+    (λ c. search needs)
+    (λ c. search needs)
+    (λ c. search needs)
+    (λ c. search needs)
+    (λ c. search needs)
+    (λ c. search needs)
+    (λ c. search needs)
+    (λ c. search needs)
+    (λ c. search needs)
+    (λ c. search needs)
+    (λ c. search needs)
+    (λ c. search needs)
+    (λ c. search needs)
+    (λ c. search needs)
+    (λ c. search needs)
+    (λ c. rw (c .before .enum-told .given .1) (c .with-ap .ensures))
+    (λ c. rw (c .before .before .enum-told2 .given .1) (c .with-ap2 .ensures))
+    (λ c. rw (c .before .enum-told3 .given .1) (c .with-overspeed .ensures))
+    (λ c. rw (c .before .enum-told4 .given .1) (c .with-overspeed2 .ensures))
+    (λ c. rw (c .before .enum-told5 .given .1) (c .with-ap3 .ensures))
+    (λ c. rw (c .before .before .enum-told6 .given .1, c .with-pf .ensures, c .before .other-side .ensures))
+    (λ c. rw (c .enum-told7 .given .1))
+    (λ c. rw (c .enum-told8 .given .1))
+    (λ c. rw (c .enum-told9 .given .1))
+    (λ c. rw (c .enum-told10 .given .1))
+    (λ c. rw (c .enum-told11 .given .1))
+    (λ c. rw (c .enum-told12 .given .1))
+    (λ c. rw (c .enum-told13 .given .1))
+    (λ c. rw (c .enum-told14 .given .1))
+    (λ c. rw (c .enum-told15 .given .1))
+    (λ c. rw (c .enum-told16 .given .1))
+    (λ c. rw (c .enum-told17 .given .1))
+    (λ c. rw (c .enum-told18 .given .1))
+    (λ c. rw (c .enum-told19 .given .1))
+    (λ c. rw (c .enum-told20 .given .1))
+    (λ c. rw (c .enum-told21 .given .1)))
