@@ -41,7 +41,7 @@ pub fn event_at(number: u32) -> Event
 }
 
 // The other side of two.
-pub fn other_side(side: u8) -> u8
+pub fn other_side(side: u32) -> u32
     ensures { λ res. ⌜ res ≡ otherSide side ⌝ }
 {
     match side {
@@ -50,7 +50,7 @@ pub fn other_side(side: u8) -> u8
     }
 }
 
-fn with_pf(s: Shared, pf: u8) -> Shared
+fn with_pf(s: Shared, pf: u32) -> Shared
     ensures { λ res. ⌜ res ≡ withPf pf s ⌝ }
 {
     let mut next = s;

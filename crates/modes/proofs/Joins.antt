@@ -53,7 +53,7 @@ vertical-lamps-le m = leb→le (verticalLamps m) 56 (at-modes (λ m. leb (vertic
 
 -- ---- a mode is engaged where the law is shown: by the number of the law, and by the mode
 
-shown : (f : ModeSet → Bool) (x : Mode) → f ModeSet.Off ≡ false → ((m : Modes) → f (ModeSet.On m) ≡ engaged x m) → (s : ModeSet) → f s ≡ engagedIn x s
+pub shown : (f : ModeSet → Bool) (x : Mode) → f ModeSet.Off ≡ false → ((m : Modes) → f (ModeSet.On m) ≡ engaged x m) → (s : ModeSet) → f s ≡ engagedIn x s
 shown f x off on ModeSet.Off = off
 shown f x off on (ModeSet.On m) = on m
 

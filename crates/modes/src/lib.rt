@@ -70,7 +70,7 @@ pub enum Event {
 
 // What the two sides share and an event can change: the PF side, AP and the overspeed flag.
 pub struct Shared {
-    pub pf: u8,
+    pub pf: u32,
     pub ap: bool,
     pub overspeed: bool,
 }

@@ -1,0 +1,11 @@
+-- `bench::inbox_of` meets its contract. Assumes nothing.
+use borrow.Author.Tests.{ne-eqb}
+use Rattle.bench.proofs.inbox_of.Statement.{statement}
+use Rattle.bench.proofs.inbox_of.Tie as tie
+
+pub inbox-of-spec : {M : Type 1} → statement M
+inbox-of-spec =
+    tie.close
+    (tie.spec
+    (λ c. rw (c .match .keys1))
+    (λ c. simp (ne-eqb _ _ (c .match .rest .1))))

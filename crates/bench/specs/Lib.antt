@@ -1,0 +1,4 @@
+pub mod Ranges
+pub mod Readings
+pub mod Holds
+pub mod Sound

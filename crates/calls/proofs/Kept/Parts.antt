@@ -1,0 +1,98 @@
+-- Soundness by its parts: what a sound bench says of PF, of each channel and of each reading, and the way back. Assumes nothing.
+use mathlib.Core.Path.{_≡_, refl}
+use mathlib.Core.Bool.{Bool, true, false, _&&_, cond, and-eq-true-iff}
+use lib.Dec.{leb}
+use Rattle.modes.specs.Sets.{coherentSet}
+use Rattle.bench.specs.declared.References.{References}
+use Rattle.bench.specs.declared.Channel.{Channel}
+use Rattle.bench.specs.declared.Readings.{Readings}
+use Rattle.bench.specs.declared.Reading.{Reading}
+use Rattle.bench.specs.declared.Bench.{Bench}
+use Rattle.bench.specs.Ranges.{within, headings, altitudes, verticalSpeeds, speeds, rolls, pitches}
+use Rattle.bench.specs.Readings.{accepted}
+use Rattle.bench.specs.Sound.{referencesSound, channelSound, readingsSound, sound}
+
+-- what holds of x if t is true, and of y if it is false, holds of the one that t picks
+pub by-cond : {A : Type 0} (P : A → Type 0) (t : Bool) (x y : A) → (t ≡ true → P x) → (t ≡ false → P y) → P (cond t x y)
+by-cond P true x y p q = p refl
+by-cond P false x y p q = q refl
+
+-- ---- conjunctions: each half, and both together
+
+and-left : (a b : Bool) → (a && b) ≡ true → a ≡ true
+and-left a b h = and-eq-true-iff a b .0 h .0
+
+and-right : (a b : Bool) → (a && b) ≡ true → b ≡ true
+and-right a b h = and-eq-true-iff a b .0 h .1
+
+pub and-both : (a b : Bool) → a ≡ true → b ≡ true → (a && b) ≡ true
+and-both a b h k = and-eq-true-iff a b .1 (h, k)
+
+-- ---- what the tests of Sound.antt ask, by name
+
+-- every reference is within its range
+pub record ReferencesIn (r : References) : Type 0 where
+  pub heading : within headings (r .heading) ≡ true
+  pub preselected : within altitudes (r .preselected) ≡ true
+  pub held : within altitudes (r .held) ≡ true
+  pub «vertical_speed» : within verticalSpeeds (r .«vertical_speed») ≡ true
+  pub ias : within speeds (r .ias) ≡ true
+  pub roll : within rolls (r .roll) ≡ true
+  pub pitch : within pitches (r .pitch) ≡ true
+
+-- a coherent set, and references within their ranges
+pub record ChannelIn (c : Channel) : Type 0 where
+  pub set : coherentSet (c .set) ≡ true
+  pub references : ReferencesIn (c .references)
+
+-- no reading that 5 or 6 would turn away
+pub record ReadingsIn (w : Readings) : Type 0 where
+  pub altitude : accepted (Reading.Altitude (w .altitude)) ≡ true
+  pub airspeed : accepted (Reading.Airspeed (w .airspeed)) ≡ true
+  pub «vertical_speed» : accepted (Reading.VerticalSpeed (w .«vertical_speed»)) ≡ true
+  pub roll : accepted (Reading.Roll (w .roll)) ≡ true
+  pub pitch : accepted (Reading.Pitch (w .pitch)) ≡ true
+  pub heading : accepted (Reading.Heading (w .heading)) ≡ true
+
+-- a sound bench
+pub record SoundIn (b : Bench) : Type 0 where
+  pub pf : leb (b .shared .pf) 1 ≡ true
+  pub left : ChannelIn (b .left)
+  pub right : ChannelIn (b .right)
+  pub «left_inbox» : ChannelIn (b .«left_inbox»)
+  pub «right_inbox» : ChannelIn (b .«right_inbox»)
+  pub readings : ReadingsIn (b .readings)
+
+-- ---- from a test to its parts, and back
+
+references-parts : (r : References) → referencesSound r ≡ true → ReferencesIn r
+unfolding referencesSound
+references-parts r h = search (and-left, and-right) depth 8
+
+references-whole : (r : References) → ReferencesIn r → referencesSound r ≡ true
+unfolding referencesSound
+references-whole r h = cc
+
+channel-parts : (c : Channel) → channelSound c ≡ true → ChannelIn c
+unfolding channelSound
+channel-parts c h = search (and-left, and-right, references-parts)
+
+channel-whole : (c : Channel) → ChannelIn c → channelSound c ≡ true
+unfolding channelSound
+channel-whole c h = search (and-both, references-whole)
+
+readings-parts : (w : Readings) → readingsSound w ≡ true → ReadingsIn w
+unfolding readingsSound
+readings-parts w h = search (and-left, and-right) depth 8
+
+readings-whole : (w : Readings) → ReadingsIn w → readingsSound w ≡ true
+unfolding readingsSound
+readings-whole w h = cc
+
+pub parts : (b : Bench) → sound b ≡ true → SoundIn b
+unfolding sound
+parts b h = search (and-left, and-right, channel-parts, readings-parts) depth 8
+
+pub whole : (b : Bench) → SoundIn b → sound b ≡ true
+unfolding sound
+whole b h = search (and-both, channel-whole, readings-whole) depth 8

@@ -1,0 +1,20 @@
+-- `calls::event` meets its contract. Assumes nothing.
+use borrow.Author.Tests.{not-true, not-false, le-leb, lt-leb}
+use Rattle.calls.specs.Calls.{eventCall, taken}
+use borrow.Author.Needs.{needs}
+use Rattle.calls.proofs.event.Statement.{statement}
+use Rattle.calls.proofs.event.Tie as tie
+
+pub event-spec : {M : Type 1} → statement M
+unfolding eventCall
+event-spec =
+    tie.close
+    (tie.spec
+    (λ c κs. search needs)
+    (λ c κs. search needs)
+    (λ c. rw (← c .before .before .is-sound .ensures, not-true (c .before .before .is-sound .result) (c .before .if1 .taken)) (c .event-answer .ensures))
+    (λ c κs. search needs)
+    (λ c. rw (← c .before .before .before .is-sound .ensures, not-false (c .before .before .before .is-sound .result) (c .before .before .if1 .left), le-leb _ _ (c .before .if2 .taken)) (c .event-answer2 .ensures))
+    (λ c κs. search needs)
+    (λ c κs. search needs)
+    (λ c. rw (← c .before .before .before .before .is-sound .ensures, not-false (c .before .before .before .before .is-sound .result) (c .before .before .before .if1 .left), lt-leb _ _ (c .before .before .if2 .left), c .event-answer3 .ensures, c .before .act .ensures)))

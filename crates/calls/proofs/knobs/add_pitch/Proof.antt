@@ -1,0 +1,11 @@
+-- `calls::knobs::add_pitch` meets its contract. Assumes nothing.
+use borrow.Author.Needs.{needs}
+use Rattle.calls.proofs.knobs.add_pitch.Statement.{statement}
+use Rattle.calls.proofs.knobs.add_pitch.Tie as tie
+
+pub add-pitch-spec : {M : Type 1} → statement M
+add-pitch-spec =
+    tie.close
+    (tie.spec
+    (λ c κs. search needs)
+    (λ c. rw (c .clamp-add .ensures) (search needs)))

@@ -1,0 +1,15 @@
+-- `calls::knobs::with_count` meets its contract. Assumes nothing.
+use borrow.Author.Tests.{ne-eqb}
+use Rattle.calls.specs.Knobs.{withCount}
+use Rattle.calls.proofs.knobs.with_count.Statement.{statement}
+use Rattle.calls.proofs.knobs.with_count.Tie as tie
+
+pub with-count-spec : {M : Type 1} → statement M
+unfolding withCount
+with-count-spec =
+    tie.close
+    (tie.spec
+    (λ c. rw (c .match .keys1))
+    (λ c. rw (c .match .keys2))
+    (λ c. rw (c .match .keys3))
+    (λ c. simp (ne-eqb _ _ (c .match .rest .1), ne-eqb _ _ (c .match .rest .0 .1), ne-eqb _ _ (c .match .rest .0 .0 .1))))

@@ -1,0 +1,15 @@
+-- `calls::post` meets its contract. Assumes nothing.
+use Rattle.calls.specs.Calls.{sent}
+use borrow.Author.Needs.{needs}
+use Rattle.calls.proofs.post.Statement.{statement}
+use Rattle.calls.proofs.post.Tie as tie
+
+pub post-spec : {M : Type 1} → statement M
+unfolding sent
+post-spec =
+    tie.close
+    (tie.spec
+    (λ c κs. search needs)
+    (λ c κs. search needs)
+    (λ c κs. search needs)
+    (λ c. rw (c .with-inbox .ensures, c .before .other-side .ensures, c .before .before .side-of .ensures)))

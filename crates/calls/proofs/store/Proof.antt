@@ -1,0 +1,23 @@
+-- `calls::store` meets its contract. Assumes nothing.
+use Rattle.bench.specs.Readings.{stored}
+use borrow.Author.Needs.{needs}
+use Rattle.calls.proofs.store.Statement.{statement}
+use Rattle.calls.proofs.store.Tie as tie
+
+pub store-spec : {M : Type 1} → statement M
+unfolding stored
+store-spec =
+    tie.close
+    (tie.spec
+    (λ c. search needs)
+    (λ c. search needs)
+    (λ c. search needs)
+    (λ c. search needs)
+    (λ c. search needs)
+    (λ c. search needs)
+    (λ c. rw (c .before .r .given .1))
+    (λ c. rw (c .before .r2 .given .1))
+    (λ c. rw (c .before .r3 .given .1))
+    (λ c. rw (c .before .r4 .given .1))
+    (λ c. rw (c .before .r5 .given .1))
+    (λ c. rw (c .before .r6 .given .1)))

@@ -1,0 +1,4 @@
+pub mod Knobs
+pub mod Displays
+pub mod Calls
+pub mod Tables

@@ -1,0 +1,15 @@
+-- `steps::three_steps` meets its contract. Assumes nothing.
+use Rattle.steps.specs.Steps.{threeSteps}
+use borrow.Author.Needs.{needs}
+use Rattle.steps.proofs.three_steps.Statement.{statement}
+use Rattle.steps.proofs.three_steps.Tie as tie
+
+pub three-steps-spec : {M : Type 1} → statement M
+unfolding threeSteps
+three-steps-spec =
+    tie.close
+    (tie.spec
+    (λ c κs. search needs)
+    (λ c κs. search needs)
+    (λ c κs. search needs)
+    (λ c. rw (c .later-steps .ensures, c .before .first-step .ensures, c .before .before .shared-after .ensures)))
