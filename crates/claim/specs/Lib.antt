@@ -1,0 +1,4 @@
+pub mod Lists
+pub mod Claim
+pub mod Sheet
+pub mod Reached
