@@ -1,1 +1,2 @@
-// The claim over a list of calls, and the bench sheet. For now this crate has definitions and theorems only.
+// The claim over any list of calls, and the bench sheet: definitions and theorems. The crate has no code of
+// its own; `replay` ties the claim to the code.
