@@ -1,3 +1,3 @@
 pub mod Kept
-pub mod Shown
+pub mod Lamps
 pub mod Lowest

@@ -16,7 +16,7 @@ use Rattle.steps.specs.Steps.{secondStep, threeSteps}
 use Rattle.calls.specs.declared.answers.Answer.{Answer}
 use Rattle.calls.specs.declared.answers.EventAnswer.{EventAnswer}
 use Rattle.calls.specs.declared.answers.DisplayAnswer.{DisplayAnswer}
-use Rattle.calls.specs.Knobs.{turned}
+use Rattle.knobs.specs.Knobs.{turned}
 use Rattle.calls.specs.Displays.{shown, blank}
 
 -- ---- refusals: 1 is tried first; 0 is accepted

@@ -2,7 +2,6 @@
 // refused with 1 first, then what document 01 names for the call; a refused call hands its bench
 // back.
 pub mod answers;
-pub mod knobs;
 
 use answers::Answer;
 use answers::Display;

@@ -11,7 +11,7 @@ use Rattle.bench.specs.Readings.{refusalOf, stored}
 use Rattle.bench.specs.Sound.{referencesSound, channelSound, readingsSound, sound}
 use Rattle.steps.specs.Entry.{entry, settled}
 use Rattle.steps.specs.Steps.{asked, fdAfter, firstStep, secondStep, thirdStep, laterSteps, threeSteps}
-use Rattle.calls.specs.Knobs.{countOf, withCount, counted, referred, pitched, wheelTurned, altitudeTurned, speedTurned, headingTurned, knobTurned, turned}
+use Rattle.knobs.specs.Knobs.{countOf, withCount, counted, referred, pitched, wheelTurned, altitudeTurned, speedTurned, headingTurned, knobTurned, turned}
 use Rattle.calls.specs.Displays.{lamps, shown}
 use Rattle.calls.specs.Calls.{eventCall, turnCall, received, readingCall, sent, sendCall, taken, refreshed, refreshCall, displayCall}
 

@@ -20,7 +20,7 @@ use Rattle.bench.specs.Holds.{side, inbox, withSide, withInbox}
 use Rattle.bench.specs.Sound.{sound}
 use Rattle.steps.specs.Entry.{settled}
 use Rattle.steps.specs.Steps.{withFd, fdAfter, firstStep, laterSteps, threeSteps}
-use Rattle.calls.specs.Knobs.{turned}
+use Rattle.knobs.specs.Knobs.{turned}
 use Rattle.calls.specs.Calls.{sideRefusal, acted, eventCall, turnCall, received, readingCall, sent, sendCall, taken, refreshed, refreshCall, displayCall}
 use Rattle.calls.proofs.Kept.{event-sound, turn-sound, reading-sound, send-sound, refresh-sound, display-sound}
 use Rattle.calls.proofs.Kept.Parts.{by-cond, parts}

@@ -15,7 +15,7 @@ use Rattle.bench.specs.declared.Channel.{Channel}
 use Rattle.bench.specs.declared.Bench.{Bench}
 use Rattle.bench.specs.Holds.{side}
 use Rattle.bench.specs.Sound.{sound}
-use Rattle.calls.specs.Knobs.{isOff}
+use Rattle.knobs.specs.Knobs.{isOff}
 use Rattle.calls.specs.Displays.{shown}
 use Rattle.calls.specs.Calls.{displayCall}
 use Rattle.calls.proofs.Kept.{on-laws}

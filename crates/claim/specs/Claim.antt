@@ -9,7 +9,7 @@ use Rattle.modes.specs.Events.{otherSide}
 use Rattle.bench.specs.Holds.{side, powerOn}
 use Rattle.calls.specs.declared.answers.Display.{Display}
 use Rattle.calls.specs.declared.answers.DisplayAnswer.{DisplayAnswer}
-use Rattle.calls.specs.Knobs.{isOff}
+use Rattle.knobs.specs.Knobs.{isOff}
 use Rattle.calls.specs.Calls.{displayCall}
 use Rattle.claim.specs.Lists.{Call, send, refresh, Reply, refusalIn, after, replies, ownRefusal, transfers, refreshes, sends, pilotFlying, None}
 

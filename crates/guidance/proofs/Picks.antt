@@ -1,0 +1,58 @@
+-- The picker names laws that the aircraft model has, after any list of calls. Assumes nothing.
+use mathlib.Core.Path.{_≡_, refl}
+use mathlib.Core.Bool.{Bool, true, false, false≢true, true≢false}
+use mathlib.Core.List.{List}
+use Prim.Native.Nat.{ℕ}
+use native.Mathlib.Omega.{arith}
+use borrow.Author.Tests.{lt-leb, eqb-true}
+use lib.Dec.{eqb}
+use Rattle.bench.specs.declared.Bench.{Bench}
+use Rattle.calls.specs.declared.answers.Display.{Display}
+use Rattle.calls.specs.Displays.{shown, blank}
+use Rattle.calls.specs.Calls.{refused, sideRefusal, displayCall}
+use Rattle.calls.proofs.Kept.Parts.{by-cond}
+use Rattle.claim.specs.Lists.{Call}
+use Rattle.claim.specs.Claim.{Keeps, modesOn}
+use Rattle.claim.proofs.Claimed.{sound-after, claim}
+use Rattle.guidance.specs.Picker.{pickedOf, NoLaws, Picks, Guides, RefusedPick}
+
+-- laws that keep the claim's rules of a side with modes on or off, from an accepted display
+kept-picks : (on : Bool) (d : Display) (refusal : ℕ) → refusal ≡ 0 → Keeps on d → Picks on (record { refusal = refusal; lateral = d .lateral; vertical = d .vertical })
+kept-picks true d refusal h k =
+    let l = k .lateral refl in
+    let v = k .vertical refl in
+    record {
+      accepted = h;
+      lateral = omega arith;
+      vertical = omega arith;
+      off = (λ e. absurd (true≢false e), λ n. absurd (omega arith));
+      flown = λ e. (omega arith, omega arith);
+    }
+kept-picks false d refusal h k =
+    let z = k .off refl in
+    record {
+      accepted = h;
+      lateral = omega arith;
+      vertical = omega arith;
+      off = (λ e. record { lateral = z .0; vertical = z .1 }, λ n. refl);
+      flown = λ e. absurd (false≢true e);
+    }
+
+-- ---- a refused display, of any bench
+
+pub refused-pick : (b : Bench) (s : ℕ) → RefusedPick b s
+unfolding pickedOf displayCall
+refused-pick b s n =
+    let r = refused b (sideRefusal s) in
+    by-cond (λ (d : Display). NoLaws (record { refusal = r; lateral = d .lateral; vertical = d .vertical })) (eqb r 0) (shown b s) blank
+    (λ e. absurd (n (eqb-true r 0 e)))
+    (λ e. record { lateral = refl; vertical = refl })
+
+-- ---- any list of calls
+
+pub guides : (cs : List Call) → Guides cs
+unfolding pickedOf displayCall
+guides cs = record {
+  picks = λ s hs. kept-picks (modesOn cs s) _ _ (claim cs .shown s hs) (claim cs .keeps s hs);
+  no-side = λ s h. rw (sound-after cs, lt-leb s 1 h);
+}

@@ -1,0 +1,13 @@
+-- `knobs::count` meets its contract. Assumes nothing.
+use Rattle.knobs.specs.Knobs.{counted}
+use borrow.Author.Needs.{needs}
+use Rattle.knobs.proofs.count.Statement.{statement}
+use Rattle.knobs.proofs.count.Tie as tie
+
+pub count-spec : {M : Type 1} → statement M
+unfolding counted
+count-spec =
+    tie.close
+    (tie.spec
+    (λ c κs. search needs)
+    (λ c. rw (c .with-count .ensures)))

@@ -1,0 +1,14 @@
+-- `knobs::pitch_in` meets its contract. Assumes nothing.
+use borrow.Author.Needs.{needs}
+use Rattle.knobs.proofs.pitch_in.Statement.{statement}
+use Rattle.knobs.proofs.pitch_in.Tie as tie
+
+pub pitch-in-spec : {M : Type 1} → statement M
+pitch-in-spec =
+    tie.close
+    (tie.spec
+    (λ c. search needs)
+    (λ c. search needs)
+    (λ c κs. search needs)
+    (λ c. search needs)
+    (λ c. rw (c .before .before .s .given .1, c .engage-pitch .ensures)))

@@ -1,0 +1,2 @@
+pub mod Knobs
+pub mod Tables
