@@ -1,0 +1,92 @@
+-- Runs of the calls as the code's own contracts allow them, and the whole of demand 3 of them. Document 01, 'The claim over a list of calls'. What an entry's contract
+-- says of a result is what the entry's own crate passes on to its callers (`Learnt`), so that a weaker contract allows more runs. Definitions and the statement only;
+-- the proof is in proofs/.
+use mathlib.Core.Path.{_≡_}
+use mathlib.Core.List.{List, [], _∷_}
+use Prim.Native.Nat.{ℕ}
+use Rattle.bench.specs.declared.Reading.{Reading}
+use Rattle.bench.specs.declared.Bench.{Bench}
+use Rattle.bench.specs.Holds.{powerOn}
+use Rattle.bench.proofs.power_on.Statement.{statement as power-on-statement}
+use Rattle.bench.proofs.power_on.Reads as power-on-reads
+use Rattle.calls.specs.declared.answers.Answer.{Answer}
+use Rattle.calls.specs.declared.answers.EventAnswer.{EventAnswer}
+use Rattle.calls.specs.declared.answers.DisplayAnswer.{DisplayAnswer}
+use Rattle.calls.proofs.event.Statement.{statement as event-statement}
+use Rattle.calls.proofs.turn.Statement.{statement as turn-statement}
+use Rattle.calls.proofs.reading.Statement.{statement as reading-statement}
+use Rattle.calls.proofs.send.Statement.{statement as send-statement}
+use Rattle.calls.proofs.refresh.Statement.{statement as refresh-statement}
+use Rattle.calls.proofs.display.Statement.{statement as display-statement}
+use Rattle.calls.proofs.event.Reads as event-reads
+use Rattle.calls.proofs.turn.Reads as turn-reads
+use Rattle.calls.proofs.reading.Reads as reading-reads
+use Rattle.calls.proofs.send.Reads as send-reads
+use Rattle.calls.proofs.refresh.Reads as refresh-reads
+use Rattle.calls.proofs.display.Reads as display-reads
+use Rattle.claim.specs.Lists.{Call, event, turn, reading, send, refresh, display, Reply, done, told, shows, after, replies}
+use Rattle.claim.specs.Claim.{Claim}
+
+-- ---- what each entry's contract says of a result
+
+abbrev pub PowerOnGives : Bench → Type 0
+PowerOnGives r = power-on-reads.Learnt tt tt r tt
+
+abbrev pub EventGives : Bench → ℕ → EventAnswer → Type 0
+EventGives b word r = event-reads.Learnt tt (b, (word, tt)) r (b, (word, tt))
+
+abbrev pub TurnGives : Bench → ℕ → ℕ → Answer → Type 0
+TurnGives b knob n r = turn-reads.Learnt tt (b, (knob, (n, tt))) r (b, (knob, (n, tt)))
+
+abbrev pub ReadingGives : Bench → Reading → Answer → Type 0
+ReadingGives b x r = reading-reads.Learnt tt (b, (x, tt)) r (b, (x, tt))
+
+abbrev pub SendGives : Bench → ℕ → Answer → Type 0
+SendGives b s r = send-reads.Learnt tt (b, (s, tt)) r (b, (s, tt))
+
+abbrev pub RefreshGives : Bench → ℕ → Answer → Type 0
+RefreshGives b s r = refresh-reads.Learnt tt (b, (s, tt)) r (b, (s, tt))
+
+abbrev pub DisplayGives : Bench → ℕ → DisplayAnswer → Type 0
+DisplayGives b s r = display-reads.Learnt tt (b, (s, tt)) r (b, (s, tt))
+
+-- ---- runs
+
+-- `Run b cs d xs`: the calls cs, the first on b and each later one on the bench that the one before it handed back, may leave d and answer xs
+pub data Run : Bench → List Call → Bench → List Reply → Type 0 where
+  stop : {b : Bench} → Run b [] b []
+  called-event : {b d : Bench} {word : ℕ} {cs : List Call} {xs : List Reply} (r : EventAnswer) → EventGives b word r → Run (r .bench) cs d xs
+      → Run b (event word ∷ cs) d (told (r .refusal) (r .event) ∷ xs)
+  called-turn : {b d : Bench} {knob n : ℕ} {cs : List Call} {xs : List Reply} (r : Answer) → TurnGives b knob n r → Run (r .bench) cs d xs
+      → Run b (turn knob n ∷ cs) d (done (r .refusal) ∷ xs)
+  called-reading : {b d : Bench} {x : Reading} {cs : List Call} {xs : List Reply} (r : Answer) → ReadingGives b x r → Run (r .bench) cs d xs
+      → Run b (reading x ∷ cs) d (done (r .refusal) ∷ xs)
+  called-send : {b d : Bench} {s : ℕ} {cs : List Call} {xs : List Reply} (r : Answer) → SendGives b s r → Run (r .bench) cs d xs
+      → Run b (send s ∷ cs) d (done (r .refusal) ∷ xs)
+  called-refresh : {b d : Bench} {s : ℕ} {cs : List Call} {xs : List Reply} (r : Answer) → RefreshGives b s r → Run (r .bench) cs d xs
+      → Run b (refresh s ∷ cs) d (done (r .refusal) ∷ xs)
+  called-display : {b d : Bench} {s : ℕ} {cs : List Call} {xs : List Reply} (r : DisplayAnswer) → DisplayGives b s r → Run (r .bench) cs d xs
+      → Run b (display s ∷ cs) d (shows (r .refusal) (r .display) ∷ xs)
+
+-- ---- demand 3 of the code
+
+pub record Demand (cs : List Call) : Type 0 where
+  -- "After the list the bench and every answer are those of document 01's rules": every run from power-on. Equal floats are the same float: the two zeros differ
+  pub same-bench : (p d : Bench) (xs : List Reply) → PowerOnGives p → Run p cs d xs → d ≡ after powerOn cs
+  pub same-replies : (p d : Bench) (xs : List Reply) → PowerOnGives p → Run p cs d xs → xs ≡ replies powerOn cs
+  -- there is such a run
+  pub starts : PowerOnGives powerOn
+  pub runs : Run powerOn cs (after powerOn cs) (replies powerOn cs)
+  -- "and all of the following holds"
+  pub rules : Claim cs
+
+-- the entries meet the contracts that runs go by, and every list of calls meets the demand
+pub record Delivered : Type 2 where
+  pub power-on-meets : {M : Type 1} → power-on-statement M
+  pub event-meets : {M : Type 1} → event-statement M
+  pub turn-meets : {M : Type 1} → turn-statement M
+  pub reading-meets : {M : Type 1} → reading-statement M
+  pub send-meets : {M : Type 1} → send-statement M
+  pub refresh-meets : {M : Type 1} → refresh-statement M
+  pub display-meets : {M : Type 1} → display-statement M
+  pub every-list : (cs : List Call) → Demand cs

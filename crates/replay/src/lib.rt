@@ -1,0 +1,138 @@
+// Lists of calls, held as slices of numbers, run through the calls of the bench from power-on.
+ghost use mathlib.Core.Path.{_≡_};
+ghost use Prim.Native.Nat.{ℕ, _≤_, _<_};
+ghost use Rattle.claim.specs.Lists.{event, turn, reading, send, refresh, display};
+ghost use Rattle.replay.specs.Coded.{callOf, callsTo, servedBy, RanTo};
+use bench::Bench;
+use bench::Reading;
+use calls::answers::Display;
+
+// The answer of the last call besides its bench: a refusal, with the event acted on or what is shown.
+pub enum LastReply {
+    Nothing,
+    Done(u32),
+    Told(u32, u32),
+    Shown(u32, Display),
+}
+
+// The bench after the calls, and the last one's answer.
+pub struct Served {
+    pub bench: Bench,
+    pub reply: LastReply,
+}
+
+fn serve_event(b: Bench, word: u32) -> Served
+    ensures { λ res. ⌜ res ≡ servedBy b (event word) ⌝ }
+{
+    let a = calls::event(b, word);
+    let next = a.bench;
+    Served {
+        bench: next,
+        reply: LastReply::Told(a.refusal, a.event),
+    }
+}
+
+fn serve_turn(b: Bench, knob: u32, new: u8) -> Served
+    ensures { λ res. ⌜ res ≡ servedBy b (turn knob new) ⌝ }
+{
+    let a = calls::turn(b, knob, new);
+    let next = a.bench;
+    Served {
+        bench: next,
+        reply: LastReply::Done(a.refusal),
+    }
+}
+
+fn serve_reading(b: Bench, r: Reading) -> Served
+    ensures { λ res. ⌜ res ≡ servedBy b (reading r) ⌝ }
+{
+    let a = calls::reading(b, r);
+    let next = a.bench;
+    Served {
+        bench: next,
+        reply: LastReply::Done(a.refusal),
+    }
+}
+
+fn serve_send(b: Bench, side: u32) -> Served
+    ensures { λ res. ⌜ res ≡ servedBy b (send side) ⌝ }
+{
+    let a = calls::send(b, side);
+    let next = a.bench;
+    Served {
+        bench: next,
+        reply: LastReply::Done(a.refusal),
+    }
+}
+
+fn serve_refresh(b: Bench, side: u32) -> Served
+    ensures { λ res. ⌜ res ≡ servedBy b (refresh side) ⌝ }
+{
+    let a = calls::refresh(b, side);
+    let next = a.bench;
+    Served {
+        bench: next,
+        reply: LastReply::Done(a.refusal),
+    }
+}
+
+fn serve_display(b: Bench, side: u32) -> Served
+    ensures { λ res. ⌜ res ≡ servedBy b (display side) ⌝ }
+{
+    let a = calls::display(b, side);
+    let next = a.bench;
+    let d = a.display;
+    Served {
+        bench: next,
+        reply: LastReply::Shown(a.refusal, d),
+    }
+}
+
+// One call. Its kind says which: 0 event, 1 turn, 2 send, 3 refresh, 4 to 9 the readings, any other
+// display. The number is an event word, a knob or a side.
+fn serve(b: Bench, kind: u32, number: u32, count: u8, x: f64) -> Served
+    ensures { λ res. ⌜ res ≡ servedBy b (callOf kind number count x) ⌝ }
+{
+    match kind {
+        0 => serve_event(b, number),
+        1 => serve_turn(b, number, count),
+        2 => serve_send(b, number),
+        3 => serve_refresh(b, number),
+        4 => serve_reading(b, Reading::Altitude(x)),
+        5 => serve_reading(b, Reading::Airspeed(x)),
+        6 => serve_reading(b, Reading::VerticalSpeed(x)),
+        7 => serve_reading(b, Reading::Roll(x)),
+        8 => serve_reading(b, Reading::Pitch(x)),
+        9 => serve_reading(b, Reading::Heading(x)),
+        _ => serve_display(b, number),
+    }
+}
+
+fn least(a: usize, b: usize) -> usize
+    ensures { λ res. ⌜ (res ≤ a) × ((res ≤ b) × ((i : ℕ) → i < a → i < b → i < res)) ⌝ }
+{
+    if a <= b { a } else { b }
+}
+
+// The first n calls that the slices hold, one after the other from power-on; all of them, as many as
+// the shortest slice holds, if n is larger.
+pub fn run_to(kinds: &[u32], numbers: &[u32], counts: &[u8], values: &[f64], n: usize) -> Served
+    ensures { λ res. ⌜ RanTo (callsTo n (now (kinds .entry)) (now (numbers .entry)) (now (counts .entry)) (now (values .entry))) res ⌝ }
+{
+    let in_both = least(kinds.len(), numbers.len());
+    let in_three = least(in_both, counts.len());
+    let in_all = least(in_three, values.len());
+    let end = least(n, in_all);
+    let start = bench::power_on();
+    let mut s = Served {
+        bench: start,
+        reply: LastReply::Nothing,
+    };
+    let mut i = 0;
+    while i < end {
+        let b = s.bench;
+        s = serve(b, kinds[i], numbers[i], counts[i], values[i]);
+        i += 1;
+    }
+    s
+}
