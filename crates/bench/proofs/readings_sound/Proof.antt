@@ -15,4 +15,4 @@ readings-sound-spec =
     (λ c κs. search needs)
     (λ c κs. search needs)
     (λ c κs. search needs)
-    (λ c. rw (c .reading-refusal6 .ensures, c .before .reading-refusal5 .ensures, c .before .before .reading-refusal4 .ensures, c .before .before .before .reading-refusal3 .ensures, c .before .before .before .before .reading-refusal2 .ensures, c .before .before .before .before .before .reading-refusal .ensures)))
+    (λ c. simp (c .reading-refusal6 .ensures, c .before .reading-refusal5 .ensures, c .before .before .reading-refusal4 .ensures, c .before .before .before .reading-refusal3 .ensures, c .before .before .before .before .reading-refusal2 .ensures, c .before .before .before .before .before .reading-refusal .ensures)))

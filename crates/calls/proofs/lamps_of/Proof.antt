@@ -4,7 +4,6 @@ use native.Mathlib.Omega.{arith}
 use borrow.Author.Tests.{eq-eqb, ne-eqb}
 use Rattle.modes.proofs.Joins.{worth-le}
 use Rattle.calls.specs.Displays.{lamps}
-use Rattle.calls.specs.Calls.{taken}
 use Rattle.calls.proofs.Lamps.{mode-lamps-le}
 use borrow.Author.Needs.{needs}
 use Rattle.calls.proofs.lamps_of.Statement.{statement}

@@ -1,7 +1,7 @@
 -- `calls::reading` meets its contract. Assumes nothing.
 use mathlib.Core.Path.{sym, _∙_}
 use borrow.Author.Tests.{ne-eqb, not-true, not-false}
-use Rattle.calls.specs.Calls.{readingCall, taken}
+use Rattle.calls.specs.Calls.{readingCall}
 use borrow.Author.Needs.{needs}
 use Rattle.calls.proofs.reading.Statement.{statement}
 use Rattle.calls.proofs.reading.Tie as tie

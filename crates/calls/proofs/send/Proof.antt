@@ -1,6 +1,6 @@
 -- `calls::send` meets its contract. Assumes nothing.
 use borrow.Author.Tests.{not-true, not-false, le-leb, lt-leb}
-use Rattle.calls.specs.Calls.{sendCall, taken}
+use Rattle.calls.specs.Calls.{sendCall}
 use borrow.Author.Needs.{needs}
 use Rattle.calls.proofs.send.Statement.{statement}
 use Rattle.calls.proofs.send.Tie as tie

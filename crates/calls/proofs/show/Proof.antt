@@ -14,4 +14,4 @@ show-spec =
     (λ c κs. search needs)
     (λ c κs. search needs)
     (λ c κs. search needs)
-    (λ c. rw (c .lamps-of .ensures, c .before .armed-sum .ensures, c .before .before .vertical-law .ensures, c .before .before .before .lateral-law .ensures, c .before .before .before .before .before .side-of .ensures)))
+    (λ c. simp (c .lamps-of .ensures, c .before .armed-sum .ensures, c .before .before .vertical-law .ensures, c .before .before .before .lateral-law .ensures, c .before .before .before .before .before .side-of .ensures)))

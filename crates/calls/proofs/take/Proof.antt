@@ -1,4 +1,6 @@
 -- `calls::take` meets its contract. Assumes nothing.
+use mathlib.Core.Path.{_∙_}
+use Rattle.bench.specs.Holds.{withSide}
 use Rattle.calls.specs.Calls.{taken}
 use borrow.Author.Needs.{needs}
 use Rattle.calls.proofs.take.Statement.{statement}
@@ -12,4 +14,4 @@ take-spec =
     (λ c κs. search needs)
     (λ c κs. search needs)
     (λ c κs. search needs)
-    (λ c. rw (c .with-side .ensures, c .before .before .inbox-of .ensures, c .before .before .before .side-of .ensures)))
+    (λ c. let s = c .before .before .before .before in c .with-side .ensures ∙ (λ i. withSide (s .args .side) (record { fd = c .before .before .before .side-of .ensures i .fd; set = c .before .before .inbox-of .ensures i .set; references = c .before .before .inbox-of .ensures i .references }) (s .args .b))))

@@ -1,6 +1,6 @@
 -- `calls::turn` meets its contract. Assumes nothing.
 use borrow.Author.Tests.{not-true, not-false, le-leb, lt-leb}
-use Rattle.calls.specs.Calls.{turnCall, taken}
+use Rattle.calls.specs.Calls.{turnCall}
 use borrow.Author.Needs.{needs}
 use Rattle.calls.proofs.turn.Statement.{statement}
 use Rattle.calls.proofs.turn.Tie as tie

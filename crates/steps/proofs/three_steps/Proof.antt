@@ -12,4 +12,4 @@ three-steps-spec =
     (λ c κs. search needs)
     (λ c κs. search needs)
     (λ c κs. search needs)
-    (λ c. rw (c .later-steps .ensures, c .before .first-step .ensures, c .before .before .shared-after .ensures)))
+    (λ c. simp (c .later-steps .ensures, c .before .first-step .ensures, c .before .before .shared-after .ensures)))
