@@ -4,19 +4,17 @@ use mathlib.Core.Bool.{cond}
 use Prim.Native.Nat.{ℕ}
 use lib.Dec.{eqb, leb}
 use lib.Count.{trailingZeros}
-use Rattle.modes.specs.Events.{otherSide, eventAt}
-use Rattle.bench.specs.declared.Channel.{Channel}
+use Rattle.modes.specs.Events.{eventAt}
 use Rattle.bench.specs.declared.Reading.{Reading}
 use Rattle.bench.specs.declared.Bench.{Bench}
 use Rattle.bench.specs.Readings.{refusalOf, stored}
-use Rattle.bench.specs.Holds.{side, inbox, withSide, withInbox}
 use Rattle.bench.specs.Sound.{sound}
-use Rattle.steps.specs.Entry.{settled}
-use Rattle.steps.specs.Steps.{secondStep, threeSteps}
+use Rattle.steps.specs.Steps.{threeSteps}
 use Rattle.calls.specs.declared.answers.Answer.{Answer}
 use Rattle.calls.specs.declared.answers.EventAnswer.{EventAnswer}
 use Rattle.calls.specs.declared.answers.DisplayAnswer.{DisplayAnswer}
 use Rattle.knobs.specs.Knobs.{turned}
+use Rattle.calls.specs.Sends.{sent, refreshed}
 use Rattle.calls.specs.Displays.{shown, blank}
 
 -- ---- refusals: 1 is tried first; 0 is accepted
@@ -74,21 +72,10 @@ received r b = record {
 unfoldable pub readingCall : Bench → Reading → Answer
 readingCall b r = answered (refused b (refusalOf r)) b (received r b)
 
--- ---- send: a side's FD, set and references are copied to the other's inbox
-
-unfoldable pub sent : ℕ → Bench → Bench
-sent s b = withInbox (otherSide s) (side b s) b
+-- ---- send and refresh
 
 unfoldable pub sendCall : Bench → ℕ → Answer
 sendCall b s = answered (refused b (sideRefusal s)) b (sent s b)
-
--- ---- refresh: the passive side takes set and references from its inbox, and not FD; the active side does the second step, with entry
-
-unfoldable pub taken : ℕ → Bench → Bench
-taken s b = withSide s (record { fd = side b s .fd; set = inbox b s .set; references = inbox b s .references }) b
-
-unfoldable pub refreshed : ℕ → Bench → Bench
-refreshed s b = cond (eqb s (b .shared .pf)) (settled (secondStep b s) s b) (taken s b)
 
 unfoldable pub refreshCall : Bench → ℕ → Answer
 refreshCall b s = answered (refused b (sideRefusal s)) b (refreshed s b)

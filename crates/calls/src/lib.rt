@@ -15,7 +15,8 @@ ghost use mathlib.Core.Path.{_≡_};
 ghost use lib.Count.{trailingZeros};
 ghost use Rattle.bench.specs.Readings.{stored};
 ghost use Rattle.calls.specs.Displays.{lamps, shown, blank};
-ghost use Rattle.calls.specs.Calls.{acted, eventCall, turnCall, received, readingCall, sent, sendCall, taken, refreshed, refreshCall, displayCall};
+ghost use Rattle.calls.specs.Calls.{acted, eventCall, turnCall, received, readingCall, sendCall, refreshCall, displayCall};
+ghost use Rattle.calls.specs.Sends.{sent, taken, refreshed};
 ghost use Rattle.calls.specs.Tables.{answerOf, eventAnswerOf, displayAnswerOf};
 
 fn answer(refusal: u32, b: Bench) -> Answer

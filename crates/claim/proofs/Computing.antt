@@ -13,7 +13,8 @@ use Rattle.steps.specs.Entry.{entry, settled}
 use Rattle.steps.specs.Steps.{asked, fdAfter, firstStep, secondStep, thirdStep, laterSteps, threeSteps}
 use Rattle.knobs.specs.Knobs.{countOf, withCount, counted, referred, pitched, wheelTurned, altitudeTurned, speedTurned, headingTurned, knobTurned, turned}
 use Rattle.calls.specs.Displays.{lamps, shown}
-use Rattle.calls.specs.Calls.{eventCall, turnCall, received, readingCall, sent, sendCall, taken, refreshed, refreshCall, displayCall}
+use Rattle.calls.specs.Calls.{eventCall, turnCall, received, readingCall, sendCall, refreshCall, displayCall}
+use Rattle.calls.specs.Sends.{sent, taken, refreshed}
 
 -- mode sets and their changes
 unfoldable sets : Unit {0}

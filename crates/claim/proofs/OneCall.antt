@@ -21,7 +21,8 @@ use Rattle.bench.specs.Sound.{sound}
 use Rattle.steps.specs.Entry.{settled}
 use Rattle.steps.specs.Steps.{withFd, fdAfter, firstStep, laterSteps, threeSteps}
 use Rattle.knobs.specs.Knobs.{turned}
-use Rattle.calls.specs.Calls.{sideRefusal, acted, eventCall, turnCall, received, readingCall, sent, sendCall, taken, refreshed, refreshCall, displayCall}
+use Rattle.calls.specs.Calls.{sideRefusal, acted, eventCall, turnCall, received, readingCall, sendCall, refreshCall, displayCall}
+use Rattle.calls.specs.Sends.{sent, taken, refreshed}
 use Rattle.calls.proofs.Kept.{event-sound, turn-sound, reading-sound, send-sound, refresh-sound, display-sound}
 use Rattle.calls.proofs.Kept.Parts.{by-cond, parts}
 use Rattle.claim.specs.Lists.{Call, event, turn, reading, send, refresh, display, refusalIn, next, reply, ownRefusal, accepted, transfers, refreshes, sends}

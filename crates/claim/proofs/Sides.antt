@@ -14,7 +14,7 @@ use Rattle.bench.specs.Holds.{side, inbox, withSide}
 use Rattle.steps.specs.Entry.{settled}
 use Rattle.steps.specs.Steps.{laterSteps}
 use Rattle.knobs.specs.Knobs.{countOf, counted, referred, pitched, isOff, wheelTurned, differ, preselection, altitudeTurned, speedTurned, headingTurned, knobTurned, turned}
-use Rattle.calls.specs.Calls.{taken, refreshed}
+use Rattle.calls.specs.Sends.{taken, refreshed}
 use Rattle.calls.proofs.Kept.Parts.{by-cond}
 
 -- what holds of both sides holds of a side

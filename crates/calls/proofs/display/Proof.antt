@@ -1,6 +1,6 @@
 -- `calls::display` meets its contract. Assumes nothing.
 use borrow.Author.Tests.{not-true, not-false, le-leb, lt-leb}
-use Rattle.calls.specs.Calls.{taken, displayCall}
+use Rattle.calls.specs.Calls.{displayCall}
 use borrow.Author.Needs.{needs}
 use Rattle.calls.proofs.display.Statement.{statement}
 use Rattle.calls.proofs.display.Tie as tie

@@ -1,5 +1,5 @@
 -- `calls::post` meets its contract. Assumes nothing.
-use Rattle.calls.specs.Calls.{sent}
+use Rattle.calls.specs.Sends.{sent}
 use borrow.Author.Needs.{needs}
 use Rattle.calls.proofs.post.Statement.{statement}
 use Rattle.calls.proofs.post.Tie as tie

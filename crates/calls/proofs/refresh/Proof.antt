@@ -1,6 +1,6 @@
 -- `calls::refresh` meets its contract. Assumes nothing.
 use borrow.Author.Tests.{not-true, not-false, le-leb, lt-leb}
-use Rattle.calls.specs.Calls.{taken, refreshCall}
+use Rattle.calls.specs.Calls.{refreshCall}
 use borrow.Author.Needs.{needs}
 use Rattle.calls.proofs.refresh.Statement.{statement}
 use Rattle.calls.proofs.refresh.Tie as tie

@@ -1,6 +1,6 @@
 -- `calls::renew` meets its contract. Assumes nothing.
 use borrow.Author.Tests.{eq-eqb, ne-eqb}
-use Rattle.calls.specs.Calls.{taken, refreshed}
+use Rattle.calls.specs.Sends.{refreshed}
 use borrow.Author.Needs.{needs}
 use Rattle.calls.proofs.renew.Statement.{statement}
 use Rattle.calls.proofs.renew.Tie as tie

@@ -1,7 +1,7 @@
 -- `calls::take` meets its contract. Assumes nothing.
 use mathlib.Core.Path.{_∙_}
 use Rattle.bench.specs.Holds.{withSide}
-use Rattle.calls.specs.Calls.{taken}
+use Rattle.calls.specs.Sends.{taken}
 use borrow.Author.Needs.{needs}
 use Rattle.calls.proofs.take.Statement.{statement}
 use Rattle.calls.proofs.take.Tie as tie

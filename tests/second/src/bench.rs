@@ -1,0 +1,198 @@
+//! The bench value: what it holds, the ranges, and when it is sound.
+
+use crate::float;
+use crate::sets::ModeSet;
+
+/// Why a call is turned away, with the number that it is answered by.
+#[derive(Clone, Copy, PartialEq, Eq, Debug)]
+pub enum Refusal {
+    Unsound = 1,
+    Side = 2,
+    Knob = 3,
+    Word = 4,
+    NotFinite = 5,
+    OutOfRange = 6,
+}
+
+/// The kinds of readings, in the order in which a bench keeps them.
+#[derive(Clone, Copy, PartialEq, Eq, Debug)]
+pub enum Kind {
+    Altitude,
+    Airspeed,
+    VerticalSpeed,
+    Roll,
+    Pitch,
+    Heading,
+}
+
+impl Kind {
+    pub const ALL: [Kind; 6] = [
+        Kind::Altitude,
+        Kind::Airspeed,
+        Kind::VerticalSpeed,
+        Kind::Roll,
+        Kind::Pitch,
+        Kind::Heading,
+    ];
+
+    fn range(self) -> (i128, i128) {
+        match self {
+            Kind::Altitude => (-8_000, 56_000),
+            Kind::Airspeed => (0, 600),
+            Kind::VerticalSpeed => (-300, 300),
+            Kind::Roll => (-180, 179),
+            Kind::Pitch => (-90, 89),
+            Kind::Heading => (0, 359),
+        }
+    }
+
+    /// The whole value of a float as a reading of this kind, or what the air
+    /// data feed is refused with.
+    pub fn whole(self, bits: u64) -> Result<i32, Refusal> {
+        let whole = float::whole(bits).ok_or(Refusal::NotFinite)?;
+        let (low, high) = self.range();
+        if whole < low || whole > high {
+            return Err(Refusal::OutOfRange);
+        }
+        Ok(whole as i32)
+    }
+}
+
+/// The references, in the order in which they are shown.
+#[derive(Clone, Copy, PartialEq, Eq, Debug)]
+pub enum Reference {
+    Heading,
+    Preselected,
+    Held,
+    VerticalSpeed,
+    Ias,
+    Roll,
+    Pitch,
+}
+
+impl Reference {
+    pub const ALL: [Reference; 7] = [
+        Reference::Heading,
+        Reference::Preselected,
+        Reference::Held,
+        Reference::VerticalSpeed,
+        Reference::Ias,
+        Reference::Roll,
+        Reference::Pitch,
+    ];
+
+    fn range(self) -> (i32, i32) {
+        match self {
+            Reference::Heading => (0, 359),
+            Reference::Preselected | Reference::Held => (-8_000, 56_000),
+            Reference::VerticalSpeed => (-50, 50),
+            Reference::Ias => (60, 400),
+            Reference::Roll => (-27, 27),
+            Reference::Pitch => (-20, 20),
+        }
+    }
+}
+
+#[derive(Clone, Copy, PartialEq, Eq, Debug)]
+pub struct References([i32; 7]);
+
+impl References {
+    const POWER_ON: References = References([0, 0, 0, 0, 90, 0, 0]);
+
+    pub fn all(&self) -> [i32; 7] {
+        self.0
+    }
+
+    pub fn get(&self, reference: Reference) -> i32 {
+        self.0[reference as usize]
+    }
+
+    /// Stores a value as it is, in range or not.
+    pub fn put(&mut self, reference: Reference, value: i32) {
+        self.0[reference as usize] = value;
+    }
+
+    pub fn put_clamped(&mut self, reference: Reference, value: i32) {
+        let (low, high) = reference.range();
+        self.put(reference, value.clamp(low, high));
+    }
+
+    fn are_in_range(&self) -> bool {
+        Reference::ALL.iter().all(|&reference| {
+            let (low, high) = reference.range();
+            (low..=high).contains(&self.get(reference))
+        })
+    }
+}
+
+/// What a side holds, and also what is sent of it.
+#[derive(Clone, Copy, PartialEq, Eq, Debug)]
+pub struct Channel {
+    pub fd: bool,
+    pub modes: ModeSet,
+    pub references: References,
+}
+
+impl Channel {
+    const POWER_ON: Channel = Channel {
+        fd: false,
+        modes: ModeSet::OFF,
+        references: References::POWER_ON,
+    };
+
+    fn is_sound(&self) -> bool {
+        self.modes.is_coherent() && self.references.are_in_range()
+    }
+}
+
+/// Readings are kept as bit patterns, so that two benches are equal exactly
+/// if they are so bit for bit.
+#[derive(Clone, Copy, PartialEq, Eq, Debug)]
+pub struct Bench {
+    pub pf: u8,
+    pub ap: bool,
+    pub overspeed: bool,
+    pub counts: [u8; 4],
+    pub readings: [u64; 6],
+    pub sides: [Channel; 2],
+    /// The inbox of each side, holding the last copy of the other side.
+    pub inboxes: [Channel; 2],
+}
+
+impl Bench {
+    pub fn power_on() -> Bench {
+        let mut readings = [0.0_f64.to_bits(); 6];
+        readings[Kind::Airspeed as usize] = 90.0_f64.to_bits();
+        Bench {
+            pf: 0,
+            ap: false,
+            overspeed: false,
+            counts: [0; 4],
+            readings,
+            sides: [Channel::POWER_ON; 2],
+            inboxes: [Channel::POWER_ON; 2],
+        }
+    }
+
+    /// The number of the active side. The bench has to be sound.
+    pub fn active(&self) -> usize {
+        usize::from(self.pf)
+    }
+
+    pub fn active_side(&mut self) -> &mut Channel {
+        &mut self.sides[usize::from(self.pf)]
+    }
+
+    pub fn reading(&self, kind: Kind) -> u64 {
+        self.readings[kind as usize]
+    }
+
+    pub fn is_sound(&self) -> bool {
+        let channels = || self.sides.iter().chain(&self.inboxes);
+        self.pf <= 1
+            && channels().all(Channel::is_sound)
+            && Kind::ALL
+                .iter()
+                .all(|&kind| kind.whole(self.reading(kind)).is_ok())
+    }
+}

@@ -1,0 +1,37 @@
+//! Tests over whole calls and whole scripts.
+
+mod refusals;
+mod rules;
+mod scripts;
+mod sheet;
+mod walk;
+
+use crate::bench::{Bench, Kind, Refusal};
+use crate::calls::{self, Display};
+
+/// The bench after some accepted event words from power-on.
+fn after(words: &[u32]) -> Bench {
+    let mut bench = Bench::power_on();
+    events(&mut bench, words);
+    bench
+}
+
+fn events(bench: &mut Bench, words: &[u32]) {
+    for &word in words {
+        assert_eq!(calls::event(bench, word), Ok(word.trailing_zeros()));
+    }
+}
+
+fn read(bench: &mut Bench, kind: Kind, value: f64) -> Result<(), Refusal> {
+    calls::reading(bench, kind, value.to_bits())
+}
+
+fn shown(bench: &Bench, side: u32) -> Display {
+    calls::display(bench, side).unwrap()
+}
+
+/// Lateral law, vertical law and armed sum.
+fn modes(bench: &Bench, side: u32) -> (u32, u32, u32) {
+    let shown = shown(bench, side);
+    (shown.lateral, shown.vertical, shown.armed)
+}
