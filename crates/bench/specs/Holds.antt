@@ -1,11 +1,10 @@
 -- What a bench value holds. Document 01, 'What a bench value holds'.
-use mathlib.Core.Bool.{Bool, false, cond}
+use mathlib.Core.Bool.{false, cond}
 use Prim.Native.Nat.{ℕ}
 use lib.Dec.{eqb}
 use lib.IntN.{pos}
 use lib.Ieee.{ofBits, binary64}
 use Rattle.modes.specs.declared.ModeSet.{ModeSet}
-use Rattle.modes.specs.declared.Shared.{Shared}
 use Rattle.bench.specs.declared.References.{References}
 use Rattle.bench.specs.declared.Channel.{Channel}
 use Rattle.bench.specs.declared.Readings.{Readings}

@@ -1,13 +1,13 @@
 -- The event that a word names. Document 01, 'Event words': of the bits set, the lowest number is acted on. `trailingZeros 32 w` is that number, and 32 where no bit is set. Assumes nothing.
-use mathlib.Core.Path.{_≡_, refl, sym, ap, _∙_}
+use mathlib.Core.Path.{_≡_, refl}
 use mathlib.Core.Bool.{Bool, true, false}
-use Prim.Native.Nat.{ℕ, zero, suc, _+_, _-_, _/_, _%_, _^_, _<_, _≤_, zero-le, suc-le-suc}
+use Prim.Native.Nat.{ℕ, zero, suc, _+_, _-_, _/_, _%_, _^_, _<_, _≤_}
 use native.Mathlib.Nat.{le-of-suc-le-suc, not-suc-le-zero, mod-lt, zero-lt-suc}
 use borrow.Author.Tests.{leb-true, leb-false}
 use native.Mathlib.Omega.{arith}
 use lib.Pow.{shr-lt}
 use native.Mathlib.Numerals.{add-one, unary-clauses}
-use lib.Dec.{T, eqb, leb, ltb}
+use lib.Dec.{leb}
 use lib.Count.{trailingZeros, under}
 
 -- bit j of w, lowest first: w halved j times, then its last digit

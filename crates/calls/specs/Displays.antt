@@ -1,10 +1,9 @@
 -- What a side shows. Document 01, 'Display'.
-use mathlib.Core.Bool.{Bool, false, cond}
+use mathlib.Core.Bool.{false, cond}
 use Prim.Native.Nat.{ℕ, _+_}
 use lib.Dec.{eqb}
 use lib.IntN.{pos}
 use Rattle.modes.specs.Numbers.{lateralLaw, verticalLaw, armedSum, modeLamps, worth}
-use Rattle.bench.specs.declared.References.{References}
 use Rattle.bench.specs.declared.Bench.{Bench}
 use Rattle.bench.specs.Holds.{side}
 use Rattle.calls.specs.declared.answers.Display.{Display}

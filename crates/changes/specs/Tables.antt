@@ -1,6 +1,6 @@
 -- What the private functions of this crate compute, by their own cases. This is no part of the promise: the contracts of the public functions cite the paper's
 -- rules in the crate `modes`, and computing over all sets shows that these agree with them.
-use mathlib.Core.Bool.{Bool, false, cond}
+use mathlib.Core.Bool.{false, cond}
 use Prim.Native.Nat.{ℕ}
 use lib.Dec.{eqb}
 use Rattle.modes.specs.declared.Lateral.{Lateral}

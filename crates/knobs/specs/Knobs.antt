@@ -8,7 +8,6 @@ use Rattle.rotation.specs.Rotation.{rotationOf, modOf}
 use Rattle.modes.specs.declared.ModeSet.{ModeSet}
 use Rattle.modes.specs.Sets.{PITCH, VS, ALTSEL, VAPPR, engage, engagedIn, inOn}
 use Rattle.bench.specs.declared.References.{References}
-use Rattle.bench.specs.declared.Channel.{Channel}
 use Rattle.bench.specs.declared.Counts.{Counts}
 use Rattle.bench.specs.declared.Bench.{Bench}
 use Rattle.bench.specs.Ranges.{clamped, altitudes, verticalSpeeds, speeds, pitches}

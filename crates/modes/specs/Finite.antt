@@ -1,6 +1,6 @@
 -- Types with few values: a test that computes to true over the list of all values holds of each value, and two values at one place are equal.
 -- This is how a law over all mode sets is proved by computing it. Assumes nothing.
-use mathlib.Core.Path.{_≡_, refl, sym, ap, _∙_, subst}
+use mathlib.Core.Path.{_≡_, sym, ap, _∙_, subst}
 use mathlib.Core.Bool.{Bool, true, false, _&&_}
 use mathlib.Core.List.{List, [], _∷_}
 use Prim.Native.Nat.{ℕ, zero, suc, _+_}

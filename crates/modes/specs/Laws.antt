@@ -1,10 +1,8 @@
 -- Laws of mode sets, each computed over all 240 representable On sets. Assumes nothing.
 use mathlib.Core.Path.{_≡_, refl}
-use mathlib.Core.Bool.{Bool, true, _&&_}
-use Prim.Native.Nat.{ℕ}
-use lib.Dec.{T, leb}
+use mathlib.Core.Bool.{Bool}
+use lib.Dec.{T}
 use Rattle.modes.specs.declared.Modes.{Modes}
-use Rattle.modes.specs.declared.ModeSet.{ModeSet}
 use Rattle.modes.specs.declared.Event.{Event}
 use Rattle.modes.specs.Finite.{every, all, at}
 use Rattle.modes.specs.Every.{flags, events, everyModes, countModes, at-modes}

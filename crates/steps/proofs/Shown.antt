@@ -1,5 +1,5 @@
 -- A mode is newly engaged where its law is newly shown. Assumes nothing.
-use mathlib.Core.Path.{_≡_, ap}
+use mathlib.Core.Path.{_≡_}
 use mathlib.Core.Bool.{Bool, not, _&&_}
 use lib.Dec.{eqb}
 use Rattle.modes.specs.declared.ModeSet.{ModeSet}

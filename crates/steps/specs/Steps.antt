@@ -1,5 +1,5 @@
 -- The three steps of a call with an event. Document 01, 'Event words'. Each step is written for a side that is given, so that more than one could act.
-use mathlib.Core.Bool.{Bool, true, not, _||_, cond}
+use mathlib.Core.Bool.{Bool, true, _||_, cond}
 use Prim.Native.Nat.{ℕ}
 use lib.Dec.{eqb}
 use Rattle.modes.specs.declared.ModeSet.{ModeSet}

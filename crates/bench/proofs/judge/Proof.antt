@@ -1,23 +1,16 @@
 -- `bench::judge` meets its contract. Assumes nothing.
 use mathlib.Core.Path.{_≡_, sym}
-use mir.Syntax.{w32}
-use mir.Val.{SFits}
-use mir.ValLaws.{toZ-ofZ}
-use mir.Val.{toZ, ofZ}
-use lib.IntN.{ℤ}
+use Rattle.rotation.proofs.Signed.{same32}
 use Rattle.bench.specs.Ranges.{range, within}
 use borrow.Author.Needs.{needs}
 use Rattle.bench.proofs.judge.Statement.{statement}
 use Rattle.bench.proofs.judge.Tie as tie
 
-held : (z : ℤ) → SFits w32 z → toZ w32 (ofZ w32 z) ≡ z
-held z h = toZ-ofZ w32 z h
-
 -- the test's result is that of the numbers themselves
 inside : (c : tie.After-between) → within (range (c .before .before .before .before .before .args .low) (c .before .before .before .before .before .args .high)) (c .before .before .whole .given .0 .0) ≡ c .between .result
 inside c =
     let s = c .before .before .before .before .before in
-    sym (rw (held (s .args .low) (s .fits .low), held (s .args .high) (s .fits .high), held (c .before .before .whole .given .0 .0) (record { sfits = c .before .known-told .given .0 .1 })) at (c .between .ensures))
+    sym (rw (same32 (s .args .low) (s .fits .low), same32 (s .args .high) (s .fits .high), same32 (c .before .before .whole .given .0 .0) (record { sfits = c .before .known-told .given .0 .1 })) at (c .between .ensures))
 
 pub judge-spec : {M : Type 1} → statement M
 judge-spec =

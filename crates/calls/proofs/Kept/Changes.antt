@@ -5,7 +5,7 @@ use Prim.Native.Nat.{ℕ, zero, suc}
 use native.Mathlib.Omega.{arith}
 use borrow.Author.Tests.{leb-true, le-leb}
 use lib.Dec.{T, eqb, leb}
-use lib.IntN.{ℤ, pos, _+ℤ_, _*ℤ_}
+use lib.IntN.{ℤ, pos}
 use lib.Signed.{leZ, leZ-yes}
 use lib.Ieee.{Float}
 use lib.Ieee.Bits.{is-true}
@@ -25,7 +25,7 @@ use Rattle.bench.specs.declared.Channel.{Channel}
 use Rattle.bench.specs.declared.Readings.{Readings}
 use Rattle.bench.specs.declared.Reading.{Reading}
 use Rattle.bench.specs.declared.Bench.{Bench}
-use Rattle.bench.specs.Ranges.{Range, within, clamped, headings, altitudes, verticalSpeeds, speeds, pitches}
+use Rattle.bench.specs.Ranges.{Range, within, clamped, headings}
 use Rattle.bench.specs.Readings.{accepted, stored, wholeIn}
 use Rattle.bench.specs.Holds.{side, inbox, withSide, withInbox}
 use Rattle.steps.specs.Entry.{loaded, entry, settled}

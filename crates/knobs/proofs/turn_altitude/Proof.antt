@@ -1,11 +1,8 @@
 -- `knobs::turn_altitude` meets its contract: what it computes is the rule's, by the number of the vertical law. Assumes nothing.
 use borrow.Author.Needs.{needs}
 use mathlib.Core.Path.{_≡_, sym, ap, _∙_}
-use mathlib.Core.Bool.{Bool, true, false}
-use Prim.Native.Nat.{ℕ}
-use lib.IntN.{ℤ, pos, _*ℤ_}
-use mir.Syntax.{w32}
-use mir.Val.{toZ, ofZ}
+use mathlib.Core.Bool.{true, false}
+use lib.IntN.{ℤ}
 use Rattle.rotation.specs.Rotation.{rotationOf}
 use Rattle.rotation.proofs.Signed.{same32}
 use Rattle.modes.specs.Numbers.{verticalLaw}

@@ -4,7 +4,7 @@ use borrow.Author.Tests.{lt-ltb, le-ltb}
 use mathlib.Core.Path.{_≡_, refl, sym, _∙_, subst}
 use mathlib.Core.Bool.{Bool, true, false, not, false≢true}
 use lib.Dec.{T}
-use lib.Ieee.{Float, nan, inf, fin, binary64, div, ofBits, isNan, nanBits}
+use lib.Ieee.{Float, nan, inf, fin, binary64, div, ofBits, isNan}
 use lib.Ieee.Bits.{nanBits-is, nanBits-above}
 use Rattle.number_forms.proofs.from_pattern.Statement.{statement}
 use Rattle.number_forms.proofs.from_pattern.Tie as tie

@@ -1,9 +1,8 @@
 -- `rotation::rotation` meets its contract. Assumes nothing.
-use mathlib.Core.Path.{_≡_, sym, ap, _∙_, subst}
+use mathlib.Core.Path.{sym, ap, _∙_, subst}
 use Prim.Native.Nat.{ℕ, _<_}
 use native.Mathlib.Omega.{arith}
 use lib.IntN.{ℤ, pos, _-ℤ_, _+ℤ_}
-use Rattle.rotation.specs.Rotation.{modOf}
 use Rattle.rotation.proofs.Signed.{small-sum-fits, small-sum-is}
 use Rattle.rotation.proofs.Laws.{mod-below}
 use borrow.Author.Needs.{needs}
