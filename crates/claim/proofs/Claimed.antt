@@ -8,8 +8,8 @@ use lib.Dec.{eqb}
 use Rattle.modes.specs.Events.{otherSide}
 use Rattle.bench.specs.Holds.{side, inbox, powerOn}
 use Rattle.bench.specs.Sound.{sound}
-use Rattle.calls.proofs.Kept.{power-on-sound}
-use Rattle.calls.proofs.Kept.Parts.{by-cond}
+use Rattle.soundness.proofs.Kept.{power-on-sound}
+use Rattle.soundness.proofs.Kept.Parts.{by-cond}
 use Rattle.claim.specs.Lists.{Call, send, refresh, next, after, transfers, refreshes, sends, pilotFlying, None}
 use Rattle.claim.specs.Claim.{displayAfter, SameShown, Claim}
 use Rattle.claim.proofs.Sides.{by-side, Same, same, same-trans}

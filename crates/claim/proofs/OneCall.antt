@@ -23,8 +23,8 @@ use Rattle.steps.specs.Steps.{withFd, fdAfter, firstStep, laterSteps, threeStep
 use Rattle.knobs.specs.Knobs.{turned}
 use Rattle.calls.specs.Calls.{sideRefusal, acted, eventCall, turnCall, received, readingCall, sendCall, refreshCall, displayCall}
 use Rattle.calls.specs.Sends.{sent, taken, refreshed}
-use Rattle.calls.proofs.Kept.{event-sound, turn-sound, reading-sound, send-sound, refresh-sound, display-sound}
-use Rattle.calls.proofs.Kept.Parts.{by-cond, parts}
+use Rattle.soundness.proofs.Kept.{event-sound, turn-sound, reading-sound, send-sound, refresh-sound, display-sound}
+use Rattle.soundness.proofs.Kept.Parts.{by-cond, parts}
 use Rattle.claim.specs.Lists.{Call, event, turn, reading, send, refresh, display, refusalIn, next, reply, ownRefusal, accepted, transfers, refreshes, sends}
 use Rattle.claim.proofs.Sides.{by-side, with-side-at, Same, same, same-trans, Within, later-within, refreshed-within, turned-within}
 

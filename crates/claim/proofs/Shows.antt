@@ -18,8 +18,8 @@ use Rattle.bench.specs.Sound.{sound}
 use Rattle.knobs.specs.Knobs.{isOff}
 use Rattle.calls.specs.Displays.{shown}
 use Rattle.calls.specs.Calls.{displayCall}
-use Rattle.calls.proofs.Kept.{on-laws}
-use Rattle.calls.proofs.Kept.Parts.{by-cond, parts}
+use Rattle.soundness.proofs.Kept.{on-laws}
+use Rattle.soundness.proofs.Kept.Parts.{by-cond, parts}
 use Rattle.claim.specs.Claim.{Keeps, SameShown}
 use Rattle.claim.proofs.Sides.{Same}
 use Rattle.claim.proofs.OneCall.{side-accepted}

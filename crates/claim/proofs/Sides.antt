@@ -15,7 +15,7 @@ use Rattle.steps.specs.Entry.{settled}
 use Rattle.steps.specs.Steps.{laterSteps}
 use Rattle.knobs.specs.Knobs.{countOf, counted, referred, pitched, isOff, wheelTurned, differ, preselection, altitudeTurned, speedTurned, headingTurned, knobTurned, turned}
 use Rattle.calls.specs.Sends.{taken, refreshed}
-use Rattle.calls.proofs.Kept.Parts.{by-cond}
+use Rattle.soundness.proofs.Kept.Parts.{by-cond}
 
 -- what holds of both sides holds of a side
 pub by-side : (P : ℕ → Type 0) → P 0 → P 1 → (s : ℕ) → s ≤ 1 → P s

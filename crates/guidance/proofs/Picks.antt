@@ -10,7 +10,7 @@ use Rattle.bench.specs.declared.Bench.{Bench}
 use Rattle.calls.specs.declared.answers.Display.{Display}
 use Rattle.calls.specs.Displays.{shown, blank}
 use Rattle.calls.specs.Calls.{refused, sideRefusal, displayCall}
-use Rattle.calls.proofs.Kept.Parts.{by-cond}
+use Rattle.soundness.proofs.Kept.Parts.{by-cond}
 use Rattle.claim.specs.Lists.{Call}
 use Rattle.claim.specs.Claim.{Keeps, modesOn}
 use Rattle.claim.proofs.Claimed.{sound-after, claim}

@@ -1,6 +1,7 @@
 //! Reads every Rattle source below the folder that it is given and lists the functions whose
 //! contract breaks a rule of the repository:
-//! - a public function has an `ensures` and no `requires`;
+//! - a public function has an `ensures`, which speaks of its result, and no `requires`; what only the
+//!   crate's own modules see, `pub(crate)`, is not public;
 //! - a clause of an `ensures` names the result `res`, and no parameter is called `res`: a parameter of
 //!   the same name would be captured, and the contract would say nothing.
 //! It proves nothing. The exit status is 0 only where the list is empty.
@@ -69,7 +70,7 @@ fn heads(text: &str) -> Vec<Head> {
     let mut found = Vec::new();
     for (at, _) in text.match_indices("fn ") {
         let before = text[..at].rsplit(['\n', ';', '{', '}']).next().unwrap_or("");
-        if !before.split_whitespace().all(|w| ["pub", "extern", "\"C\""].contains(&w)) {
+        if !before.split_whitespace().all(|w| ["pub", "pub(crate)", "extern", "\"C\""].contains(&w)) {
             continue;
         }
         let rest = &text[at + 3..];
@@ -78,7 +79,7 @@ fn heads(text: &str) -> Vec<Head> {
         let Some(clauses) = clauses(after) else { continue };
         found.push(Head {
             name: rest[..paren].split('<').next().unwrap_or("").trim().to_string(),
-            public: before.contains("pub"),
+            public: before.split_whitespace().any(|w| w == "pub"),
             parameters: parameters.to_string(),
             clauses,
         });
@@ -86,10 +87,21 @@ fn heads(text: &str) -> Vec<Head> {
     found
 }
 
+/// Whether a clause speaks of the result, or of what a reference holds at the end.
+fn speaks(clause: &str) -> bool {
+    let body = clause.trim_start().trim_start_matches("λ res.").trim_start_matches("λ _.");
+    let words = body.split(|c: char| !(c.is_alphanumeric() || c == '_' || c == '.'));
+    words.into_iter().any(|w| w == "res" || w == ".exit")
+}
+
 fn faults(head: &Head) -> Vec<String> {
     let mut found = Vec::new();
     if head.public && !head.clauses.iter().any(|(kind, _)| kind == "ensures") {
         found.push("is public and has no ensures".to_string());
+    }
+    let silent = |(kind, clause): &(String, String)| kind == "ensures" && !speaks(clause);
+    if head.public && head.clauses.iter().any(silent) {
+        found.push("is public and has an ensures that is silent on its result".to_string());
     }
     if head.public && head.clauses.iter().any(|(kind, _)| kind == "requires") {
         found.push("is public and has a requires".to_string());
@@ -137,6 +149,8 @@ mod tests {
     #[test]
     fn a_good_function_passes() {
         assert!(said("pub fn f(x: u8) -> u8\n    ensures { λ res. ⌜ res ≡ x ⌝ }\n{\n    x\n}\n").is_empty());
+        assert!(said("pub fn f(x: &mut [u8])\n    ensures { λ _. ⌜ now (x .exit) ≡ now (x .entry) ⌝ }\n{\n}\n").is_empty());
+        assert!(said("pub(crate) fn g(x: u8) -> u8 {\n    x\n}\n").is_empty());
         assert!(said("fn g(x: u8) -> u8\n    requires { ⌜ x < 3 ⌝ }\n{\n    x\n}\n").is_empty());
     }
 
@@ -146,6 +160,9 @@ mod tests {
         assert_eq!(said("pub fn f(x: u8) -> u8\n    requires { ⌜ x < 3 ⌝ }\n    ensures { λ res. ⌜ res ≡ x ⌝ }\n{\n    x\n}\n").len(), 1);
         assert_eq!(said("fn f(res: u8) -> u8\n    ensures { λ res. ⌜ res ≡ res ⌝ }\n{\n    res\n}\n").len(), 1);
         assert_eq!(said("fn f(r: u8) -> u8\n    ensures { λ r. ⌜ r ≡ r ⌝ }\n{\n    r\n}\n").len(), 1);
+        assert_eq!(said("pub fn f(x: u8) -> u8\n    ensures { λ _. ⌜ x ≡ x ⌝ }\n{\n    x\n}\n").len(), 1);
+        assert_eq!(said("pub fn f(x: u8) -> u8\n    ensures { λ res. ⌜ x ≡ x ⌝ }\n{\n    x\n}\n").len(), 1);
+        assert_eq!(said("pub(crate) fn f(res: u8) -> u8 {\n    res\n}\n").len(), 1);
         assert_eq!(said("pub extern \"C\" fn f(x: u8) -> u8 {\n    x\n}\n").len(), 1);
     }
 }

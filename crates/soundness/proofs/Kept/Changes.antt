@@ -31,9 +31,9 @@ use Rattle.bench.specs.Holds.{side, inbox, withSide, withInbox}
 use Rattle.steps.specs.Entry.{loaded, entry, settled}
 use Rattle.steps.specs.Steps.{firstStep, comingOn, secondStep, thirdStep, laterSteps, threeSteps}
 use Rattle.knobs.specs.Knobs.{counted, isOff, withPreselected, referred, pitched, wheelTurned, differ, preselection, altitudeTurned, speedTurned, headingTurned, knobTurned, countOf, turned}
 use Rattle.calls.specs.Calls.{received}
 use Rattle.calls.specs.Sends.{sent, taken, refreshed}
-use Rattle.calls.proofs.Kept.Parts.{by-cond, and-both, ReferencesIn, ChannelIn, ReadingsIn, SoundIn}
+use Rattle.soundness.proofs.Kept.Parts.{by-cond, and-both, ReferencesIn, ChannelIn, ReadingsIn, SoundIn}
 
 -- ---- sides and inboxes
 

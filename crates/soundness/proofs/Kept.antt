@@ -22,10 +22,10 @@ use Rattle.bench.specs.Holds.{powerOn}
 use Rattle.bench.specs.Sound.{referencesSound, channelSound, readingsSound, sound}
 use Rattle.steps.specs.Steps.{threeSteps}
 use Rattle.knobs.specs.Knobs.{turned}
 use Rattle.calls.specs.Calls.{refused, sideRefusal, knobRefusal, wordRefusal, acted, eventCall, turnCall, received, readingCall, sendCall, refreshCall, displayCall}
 use Rattle.calls.specs.Sends.{sent, refreshed}
-use Rattle.calls.proofs.Kept.Parts.{by-cond, SoundIn, parts, whole}
-use Rattle.calls.proofs.Kept.Changes.{three-sound, turned-sound, received-sound, sent-sound, refreshed-sound}
+use Rattle.soundness.proofs.Kept.Parts.{by-cond, SoundIn, parts, whole}
+use Rattle.soundness.proofs.Kept.Changes.{three-sound, turned-sound, received-sound, sent-sound, refreshed-sound}
 pub mod Parts
 pub mod Changes
 

@@ -1,0 +1,1 @@
+// Theorems only, in proofs/: the bench of power-on is sound, and every call keeps a sound bench sound.
