@@ -1,0 +1,109 @@
+// Answers wait in a buffer until it is full or more input is asked for. Each function takes how many
+// bytes wait, and answers how many wait then.
+use libc::STDOUT_FILENO;
+
+// Writes what waits.
+pub(crate) fn flush(out: &[u8], waiting: usize) {
+    if waiting <= out.len() {
+        io::write_all(STDOUT_FILENO, &out[0..waiting]);
+    }
+}
+
+pub(crate) fn put(out: &mut [u8], waiting: usize, byte: u8) -> usize {
+    if waiting < out.len() {
+        out[waiting] = byte;
+        return waiting + 1;
+    }
+    flush(out, waiting);
+    if out.len() == 0 {
+        return 0;
+    }
+    out[0] = byte;
+    1
+}
+
+pub(crate) fn put_text(out: &mut [u8], waiting: usize, text: &[u8]) -> usize {
+    let mut at = waiting;
+    let mut i = 0;
+    while i < text.len() {
+        at = put(out, at, text[i]);
+        i += 1;
+    }
+    at
+}
+
+// So many spaces.
+pub(crate) fn put_spaces(out: &mut [u8], waiting: usize, count: usize) -> usize {
+    let mut at = waiting;
+    let mut i = 0;
+    while i < count {
+        at = put(out, at, b' ');
+        i += 1;
+    }
+    at
+}
+
+// A number in decimal.
+pub(crate) fn put_number(out: &mut [u8], waiting: usize, n: u64) -> usize {
+    let mut digits = [0u8; 20];
+    let k = io::decimal(n, &mut digits);
+    put_text(out, waiting, &digits[..k])
+}
+
+fn wide(n: u32) -> u64 {
+    n as u64
+}
+
+// A space and a number.
+pub(crate) fn put_next(out: &mut [u8], waiting: usize, n: u32) -> usize {
+    let at = put(out, waiting, b' ');
+    put_number(out, at, wide(n))
+}
+
+// A number that may be negative.
+pub(crate) fn put_signed(out: &mut [u8], waiting: usize, x: i32) -> usize {
+    let n = number_forms::magnitude(x);
+    if x < 0 {
+        let at = put(out, waiting, b'-');
+        return put_number(out, at, n);
+    }
+    put_number(out, waiting, n)
+}
+
+// A space and such a number.
+pub(crate) fn put_next_signed(out: &mut [u8], waiting: usize, x: i32) -> usize {
+    let at = put(out, waiting, b' ');
+    put_signed(out, at, x)
+}
+
+// A space and such a number, for each of some.
+pub(crate) fn put_each_signed(out: &mut [u8], waiting: usize, numbers: &[i32]) -> usize {
+    let mut at = waiting;
+    let mut i = 0;
+    while i < numbers.len() {
+        at = put_next_signed(out, at, numbers[i]);
+        i += 1;
+    }
+    at
+}
+
+// A space and a flag, 0 or 1.
+pub(crate) fn put_next_flag(out: &mut [u8], waiting: usize, flag: bool) -> usize {
+    let at = put(out, waiting, b' ');
+    if flag {
+        put(out, at, b'1')
+    } else {
+        put(out, at, b'0')
+    }
+}
+
+// A space and a float's bit pattern. The language reads no pattern of a NaN, and a NaN is 'nan'.
+pub(crate) fn put_next_float(out: &mut [u8], waiting: usize, x: f64) -> usize {
+    if x != x {
+        return put_text(out, waiting, b" nan");
+    }
+    let mut digits = [0u8; 16];
+    let k = io::hex(f64::to_bits(x), 16, &mut digits);
+    let at = put_text(out, waiting, b" 0x");
+    put_text(out, at, &digits[..k])
+}

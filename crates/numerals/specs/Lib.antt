@@ -1,0 +1,7 @@
+pub mod Digits
+pub mod Words
+pub mod Numbers
+pub mod Integers
+pub mod Values
+pub mod Tables
+pub mod Examples

@@ -1,0 +1,337 @@
+// Numbers as a script writes them. A word is a slice of bytes, and is read as a number, as a signed
+// number or as a float. specs/Numbers, Integers and Values say what is read as what, specs/Examples
+// gives words, and specs/Steps has what only the private functions promise.
+pub mod answers;
+
+use answers::Number;
+use answers::Signed;
+use answers::Value;
+ghost use mathlib.Core.Path.{_≡_};
+ghost use Prim.Native.Nat.{_<_, _≤_, _^_};
+ghost use mathlib.Core.Bool.{true, false};
+ghost use lib.IntN.{pos, negℤ};
+ghost use lib.Ieee.{binary64, round};
+ghost use Rattle.numerals.specs.Digits.{digitOf};
+ghost use Rattle.numerals.specs.Numbers.{numberIn};
+ghost use Rattle.numerals.specs.Integers.{signedAs, signedOf};
+ghost use Rattle.numerals.specs.Words.{sameWord, hasMinus, unsigned, pointAt};
+ghost use Rattle.numerals.specs.Values.{nameOf, patternOf, decimalAs, firstOf, valueOf};
+ghost use Rattle.numerals.specs.Tables.{step, readOn, numeralIn, wholeOf, fractionOf, pointedOf, negatedOf};
+
+// The largest number of 15 digits.
+const LARGEST: u64 = 999_999_999_999_999;
+
+// The number that digits stand for; wrong where a byte is no digit, or the number too large.
+enum Digits {
+    Are(u64),
+    Wrong,
+}
+
+// What a byte counts as a digit, of either case; 16 where it is none. '0' is 48, 'A' 65 and 'a' 97.
+fn digit(b: u8) -> u64
+    ensures { λ res. ⌜ res ≡ digitOf b ⌝ }
+{
+    match b {
+        b'0'..=b'9' => (b - 48) as u64,
+        b'A'..=b'F' => (b - 55) as u64,
+        b'a'..=b'f' => (b - 87) as u64,
+        _ => 16,
+    }
+}
+
+// The number v with one digit more behind it, of at most `most`.
+fn one_more(base: u64, v: u64, b: u8, most: u64) -> Digits
+    requires { ⌜ 0 < base ⌝ }
+    ensures { λ res. ⌜ res ≡ step base most v b ⌝ }
+{
+    let d = digit(b);
+    if base <= d {
+        return Digits::Wrong;
+    }
+    if most / base < v {
+        return Digits::Wrong;
+    }
+    let tens = v * base;
+    if most - tens < d {
+        return Digits::Wrong;
+    }
+    Digits::Are(tens + d)
+}
+
+// The number `start` with the digits w behind it, of at most `most`.
+fn digits_from(base: u64, start: u64, w: &[u8], most: u64) -> Digits
+    requires { ⌜ 0 < base ⌝ ∗ ⌜ start ≤ most ⌝ }
+    ensures { λ res. ⌜ res ≡ readOn base most start (now (w .entry)) ⌝ }
+{
+    let mut v = start;
+    let mut i = 0;
+    while i < w.len() {
+        let next = one_more(base, v, w[i], most);
+        let Digits::Are(n) = next else {
+            return Digits::Wrong;
+        };
+        v = n;
+        i += 1;
+    }
+    Digits::Are(v)
+}
+
+// One or more digits and nothing else, of a number of at most `most`.
+fn numeral(w: &[u8], most: u64) -> Digits
+    ensures { λ res. ⌜ res ≡ numeralIn most (now (w .entry)) ⌝ }
+{
+    if w.len() < 1 {
+        return Digits::Wrong;
+    }
+    digits_from(10, 0, w, most)
+}
+
+// A number of at most `most`.
+pub fn number(w: &[u8], most: u32) -> Number
+    ensures { λ res. ⌜ res ≡ numberIn most (now (w .entry)) ⌝ }
+{
+    let found = numeral(w, most as u64);
+    match found {
+        Digits::Are(n) => {
+            let small = n as u32;
+            Number::Is(small)
+        }
+        Digits::Wrong => Number::Wrong,
+    }
+}
+
+// Whether a word begins with '-'.
+fn has_minus(w: &[u8]) -> bool
+    ensures { λ res. ⌜ res ≡ hasMinus (now (w .entry)) ⌝ }
+{
+    if w.len() == 0 {
+        return false;
+    }
+    w[0] == b'-'
+}
+
+// -n, at the wider type, where 2147483648 can be negated.
+fn minus(n: u32) -> i32
+    requires { ⌜ n ≤ 2147483648 ⌝ }
+    ensures { λ res. ⌜ res ≡ negℤ (pos n) ⌝ }
+{
+    (0 - n as i64) as i32
+}
+
+// Digits behind a '-'.
+fn negative(w: &[u8]) -> Signed
+    ensures { λ res. ⌜ res ≡ signedAs true (now (w .entry)) ⌝ }
+{
+    let found = number(w, 2147483648);
+    match found {
+        Number::Is(n) => Signed::Is(minus(n)),
+        Number::Wrong => Signed::Wrong,
+    }
+}
+
+// Digits without a sign.
+fn positive(w: &[u8]) -> Signed
+    ensures { λ res. ⌜ res ≡ signedAs false (now (w .entry)) ⌝ }
+{
+    let found = number(w, 2147483647);
+    match found {
+        Number::Is(n) => {
+            let small = n as i32;
+            Signed::Is(small)
+        }
+        Number::Wrong => Signed::Wrong,
+    }
+}
+
+// A number with or without a '-' in front, from -2147483648 to 2147483647.
+pub fn signed(w: &[u8]) -> Signed
+    ensures { λ res. ⌜ res ≡ signedOf (now (w .entry)) ⌝ }
+{
+    if has_minus(w) {
+        negative(&w[1..])
+    } else {
+        positive(w)
+    }
+}
+
+// Whether w has the bytes of v, and no others.
+fn is_word(w: &[u8], v: &[u8]) -> bool
+    ensures { λ res. ⌜ res ≡ sameWord (now (w .entry)) (now (v .entry)) ⌝ }
+{
+    if w.len() != v.len() {
+        return false;
+    }
+    let mut i = 0;
+    while i < w.len() {
+        if w[i] != v[i] {
+            return false;
+        }
+        i += 1;
+    }
+    true
+}
+
+// The floats that have a name.
+fn name(w: &[u8]) -> Value
+    ensures { λ res. ⌜ res ≡ nameOf (now (w .entry)) ⌝ }
+{
+    if is_word(w, b"nan") {
+        return Value::Is(0.0 / 0.0);
+    }
+    if is_word(w, b"inf") {
+        return Value::Is(1.0 / 0.0);
+    }
+    if is_word(w, b"-inf") {
+        return Value::Is(-1.0 / 0.0);
+    }
+    Value::Wrong
+}
+
+// A float by its bit pattern: '0x' and 16 hexadecimal digits.
+fn pattern(w: &[u8]) -> Value
+    ensures { λ res. ⌜ res ≡ patternOf (now (w .entry)) ⌝ }
+{
+    if w.len() != 18 {
+        return Value::Wrong;
+    }
+    if w[0] != b'0' {
+        return Value::Wrong;
+    }
+    if w[1] != b'x' {
+        return Value::Wrong;
+    }
+    let found = digits_from(16, 0, &w[2..], 0xffff_ffff_ffff_ffff);
+    match found {
+        Digits::Are(n) => Value::Is(number_forms::from_pattern(n)),
+        Digits::Wrong => Value::Wrong,
+    }
+}
+
+// The place of the first point, or the length where there is none.
+fn find_point(w: &[u8]) -> usize
+    ensures { λ res. ⌜ res ≡ pointAt (now (w .entry)) ⌝ }
+{
+    let mut i = 0;
+    while i < w.len() {
+        if w[i] == b'.' {
+            return i;
+        }
+        i += 1;
+    }
+    i
+}
+
+// 10 to the power k.
+fn power_of_ten(k: usize) -> u64
+    requires { ⌜ k ≤ 15 ⌝ }
+    ensures { λ res. ⌜ res ≡ 10 ^ k ⌝ }
+{
+    let mut p: u64 = 1;
+    let mut i: usize = 0;
+    while i < k {
+        p = p * 10;
+        i += 1;
+    }
+    p
+}
+
+// The float nearest to n / 10^k. Both are below 2^53 and so exact, and a division rounds once.
+fn quotient(n: u64, k: usize) -> f64
+    requires { ⌜ n ≤ 999999999999999 ⌝ ∗ ⌜ k ≤ 15 ⌝ }
+    ensures { λ res. ⌜ res ≡ round binary64 false n (10 ^ k) ⌝ }
+{
+    let above = std::num::nearest_u64_to_f64(n);
+    let below = std::num::nearest_u64_to_f64(power_of_ten(k));
+    above / below
+}
+
+// A decimal without a point.
+fn whole(w: &[u8]) -> Value
+    ensures { λ res. ⌜ res ≡ wholeOf (now (w .entry)) ⌝ }
+{
+    let found = numeral(w, LARGEST);
+    match found {
+        Digits::Are(n) => Value::Is(quotient(n, 0)),
+        Digits::Wrong => Value::Wrong,
+    }
+}
+
+// The number n with the digits w behind its point.
+fn fraction(n: u64, w: &[u8]) -> Value
+    requires { ⌜ n ≤ 999999999999999 ⌝ }
+    ensures { λ res. ⌜ res ≡ fractionOf n (now (w .entry)) ⌝ }
+{
+    let k = w.len();
+    if k < 1 {
+        return Value::Wrong;
+    }
+    if 15 < k {
+        return Value::Wrong;
+    }
+    let found = digits_from(10, n, w, LARGEST);
+    match found {
+        Digits::Are(m) => Value::Is(quotient(m, k)),
+        Digits::Wrong => Value::Wrong,
+    }
+}
+
+// A decimal with w before its point and v behind it.
+fn pointed(w: &[u8], v: &[u8]) -> Value
+    ensures { λ res. ⌜ res ≡ pointedOf (now (w .entry)) (now (v .entry)) ⌝ }
+{
+    let found = numeral(w, LARGEST);
+    match found {
+        Digits::Are(n) => fraction(n, v),
+        Digits::Wrong => Value::Wrong,
+    }
+}
+
+// A decimal without a sign.
+fn decimal(w: &[u8]) -> Value
+    ensures { λ res. ⌜ res ≡ decimalAs false (now (w .entry)) ⌝ }
+{
+    let p = find_point(w);
+    if w.len() <= p {
+        return whole(w);
+    }
+    let next = p + 1;
+    pointed(&w[..p], &w[next..])
+}
+
+// The value with its sign changed.
+fn negated(v: Value) -> Value
+    ensures { λ res. ⌜ res ≡ negatedOf v ⌝ }
+{
+    match v {
+        Value::Is(x) => Value::Is(-x),
+        Value::Wrong => Value::Wrong,
+    }
+}
+
+// A decimal with or without a '-' in front.
+fn signed_decimal(w: &[u8]) -> Value
+    ensures { λ res. ⌜ res ≡ decimalAs (hasMinus (now (w .entry))) (unsigned (now (w .entry))) ⌝ }
+{
+    if has_minus(w) {
+        return negated(decimal(&w[1..]));
+    }
+    decimal(w)
+}
+
+// The first of two values that is one.
+fn either(a: Value, b: Value) -> Value
+    ensures { λ res. ⌜ res ≡ firstOf a b ⌝ }
+{
+    match a {
+        Value::Is(x) => Value::Is(x),
+        Value::Wrong => b,
+    }
+}
+
+// A float: its name, its bit pattern or a decimal.
+pub fn value(w: &[u8]) -> Value
+    ensures { λ res. ⌜ res ≡ valueOf (now (w .entry)) ⌝ }
+{
+    let other = either(pattern(w), signed_decimal(w));
+    either(name(w), other)
+}

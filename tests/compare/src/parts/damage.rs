@@ -1,0 +1,236 @@
+//! Benches damaged in every way that refusal 1 names, each with one call of every kind.
+
+use super::words::{self, Set, BOXES, KINDS, REFERENCES};
+use crate::gate::{Gate, Stop};
+use crate::say;
+use crate::script::Script;
+
+/// Calls with good arguments and with bad ones, so that the order of refusals is seen.
+const CALLS: [&str; 24] = [
+    "event 0",
+    "event 16384",
+    "event 1048576",
+    "event 4293918721",
+    "turn 0 1",
+    "turn 3 200",
+    "turn 4 1",
+    "reading roll 1.5",
+    "reading roll 1000",
+    "reading roll nan",
+    "reading heading -inf",
+    "send 0",
+    "send 1",
+    "send 2",
+    "refresh 0",
+    "refresh 1",
+    "refresh 2",
+    "display 0",
+    "display 1",
+    "display 2",
+    "pick 0",
+    "pick 1",
+    "pick 2",
+    "panel",
+];
+
+/// What the damage is done to: the bench at power-on, and one where nothing is as at power-on.
+const STARTS: [&[&str]; 2] = [
+    &[],
+    &[
+        "event 65536",
+        "event 1024",
+        "reading airspeed 250.5",
+        "turn 1 30",
+        "send 0",
+        "refresh 1",
+        "event 2",
+        "event 4",
+        "event 128",
+        "send 1",
+        "event 32",
+        "turn 3 90",
+    ],
+];
+
+pub fn run(gate: &mut Gate) -> Result<(), Stop> {
+    for start in STARTS {
+        gate.check(&script(start))?;
+    }
+    Ok(())
+}
+
+fn script(start: &[&str]) -> Script {
+    let mut script = Script::default();
+    for damage in damages() {
+        for line in start {
+            script.line(line);
+        }
+        for part in damage.split(" and ") {
+            say!(script, "damage {part}");
+        }
+        for line in CALLS {
+            script.line(line);
+        }
+        script.line("bench");
+        script.line("power-on");
+    }
+    script
+}
+
+fn damages() -> Vec<String> {
+    let mut damages: Vec<String> = Vec::new();
+    damages.extend([0, 1, 2, 3, 127, 128, 254, 255].map(|side| format!("pf {side}")));
+    for place in BOXES {
+        damages.extend(of_references(place));
+        damages.push(format!("{place} set {}", Set::OFF));
+        damages.extend(
+            words::on_sets()
+                .iter()
+                .map(|set| format!("{place} set {set}")),
+        );
+    }
+    damages.extend(of_readings());
+    damages.extend(TWICE.map(String::from));
+    damages
+}
+
+/// The last good and the first bad values on both ends, and numbers that would be good if they
+/// were cut to fewer bits.
+fn of_references(place: &str) -> Vec<String> {
+    let mut damages = Vec::new();
+    for reference in REFERENCES {
+        let (name, low, high) = (reference.name, reference.low, reference.high);
+        let cut = [256, 65_536, -65_536, 1 << 24].map(|wrap| wrap + high);
+        let ends = [
+            i32::MIN,
+            i32::MIN + 1,
+            low - 1,
+            low,
+            high,
+            high + 1,
+            i32::MAX,
+        ];
+        let values = ends.iter().chain(&cut);
+        damages.extend(values.map(|value| format!("{place} {name} {value}")));
+    }
+    damages
+}
+
+fn of_readings() -> Vec<String> {
+    let mut damages = Vec::new();
+    for kind in KINDS {
+        let mut values = words::values_at_ends(kind);
+        let large = [
+            f64::MAX,
+            f64::MIN,
+            2_f64.powi(31),
+            2_f64.powi(32),
+            -2_f64.powi(63),
+        ];
+        let small = [-0.0, f64::from_bits(1), f64::MIN_POSITIVE];
+        values.extend(
+            large
+                .iter()
+                .chain(&small)
+                .map(|&value| words::pattern(value)),
+        );
+        values.extend(["nan", "inf", "-inf", "0x7ff0000000000001"].map(String::from));
+        damages.extend(
+            values
+                .iter()
+                .map(|value| format!("reading {} {value}", kind.name)),
+        );
+    }
+    damages
+}
+
+/// Two damages at once, and a damage that a second one undoes.
+const TWICE: [&str; 6] = [
+    "pf 2 and reading roll nan",
+    "left set 1 0 7 0 and right ias 401",
+    "reading altitude inf and reading heading 360",
+    "pf 7 and pf 1",
+    "right-inbox set 5 2 8 0 and right-inbox set 5 2 8 1",
+    "left-inbox pitch 21 and left-inbox pitch 20",
+];
+
+#[cfg(test)]
+mod tests {
+    use super::*;
+    use std::collections::BTreeSet;
+
+    #[test]
+    fn the_number_of_damages_is_that_of_the_choices() {
+        let boxes = 4 * (7 * 11 + 241);
+        let readings = 6 * (2 * 7 * 3 + 5 + 3 + 4);
+        assert_eq!(damages().len(), 8 + boxes + readings + 6);
+        let lines = CALLS.len() + 2;
+        for start in STARTS {
+            let expected = damages().len() * (start.len() + 1 + lines) + TWICE.len();
+            assert_eq!(script(start).commands(), expected);
+        }
+    }
+
+    #[test]
+    fn every_reference_is_damaged_at_both_ends_in_every_box() {
+        let all: BTreeSet<String> = damages().into_iter().collect();
+        for place in ["left", "right", "left-inbox", "right-inbox"] {
+            for value in ["heading -1", "heading 0", "heading 359", "heading 360"] {
+                assert!(all.contains(&format!("{place} {value}")));
+            }
+            for value in [
+                "ias 59",
+                "ias 401",
+                "held 56001",
+                "roll -28",
+                "pitch 2147483647",
+            ] {
+                assert!(all.contains(&format!("{place} {value}")));
+            }
+            assert!(all.contains(&format!("{place} set 5 2 8 1")));
+            assert!(all.contains(&format!("{place} set 0 0 0 0")));
+        }
+    }
+
+    #[test]
+    fn every_kind_of_reading_is_damaged() {
+        let all: BTreeSet<String> = damages().into_iter().collect();
+        for kind in [
+            "altitude",
+            "airspeed",
+            "vertical-speed",
+            "roll",
+            "pitch",
+            "heading",
+        ] {
+            for value in ["nan", "inf", "-inf"] {
+                assert!(all.contains(&format!("reading {kind} {value}")));
+            }
+        }
+        for value in ["altitude 0x40eb581000000000", "altitude 0x40eb581000000001"] {
+            assert!(all.contains(&format!("reading {value}")), "{value}");
+        }
+    }
+
+    #[test]
+    fn every_kind_of_call_is_made_well_and_badly() {
+        for name in [
+            "event", "turn", "reading", "send", "refresh", "display", "pick",
+        ] {
+            let calls = CALLS
+                .iter()
+                .filter(|call| call.split(' ').next() == Some(name));
+            assert!(calls.count() >= 3, "{name}");
+        }
+        for bad in [
+            "event 1048576",
+            "turn 4 1",
+            "send 2",
+            "refresh 2",
+            "display 2",
+            "pick 2",
+        ] {
+            assert!(CALLS.contains(&bad), "{bad}");
+        }
+    }
+}

@@ -1,0 +1,275 @@
+//! The script language: what is a command, what is an error, and that an error changes nothing.
+
+mod lines;
+mod numbers;
+
+use crate::gate::{Gate, Stop};
+use crate::rng::Rng;
+use crate::script::Script;
+
+const MUTATIONS: usize = 20_000;
+
+/// Keeps the numbers apart from those of other parts with the same seed.
+const LIST: u64 = 6_000;
+
+/// Lengths about the limit of a line and about the sizes that buffers often have.
+const LENGTHS: [usize; 17] = [
+    254, 255, 256, 257, 258, 300, 511, 512, 513, 1_024, 4_095, 4_096, 4_097, 8_192, 10_000, 65_536,
+    100_000,
+];
+
+pub fn run(gate: &mut Gate) -> Result<(), Stop> {
+    for script in whole_scripts() {
+        gate.check(&script)?;
+    }
+    gate.check(&shown_after_each(numbers::lines()))?;
+    gate.check(&shown_after_each(lines::fixed()))?;
+    gate.check(&shown_after_each(with_every_byte()))?;
+    gate.check(&shown_after_each(LENGTHS.into_iter().flat_map(of_length)))?;
+    gate.check(&mutated(&mut Rng::of_list(gate.seed, LIST)))?;
+    Ok(())
+}
+
+/// Each line, and then the bench, to see what the line has changed. The bench is not the one of
+/// power-on, to which a wrong answer to an error might take it back.
+fn shown_after_each<T: AsRef<[u8]>>(lines: impl IntoIterator<Item = T>) -> Script {
+    let mut script = Script::default();
+    for line in lines {
+        script.line("power-on");
+        script.line("event 16384");
+        script.line(line);
+        script.line("bench");
+    }
+    script
+}
+
+// ---- Whole scripts ----
+
+/// Scripts whose end matters: with no line at all, or with a last line that has no newline.
+fn whole_scripts() -> Vec<Script> {
+    let mut scripts: Vec<Script> = ENDS.iter().map(|text| as_script(text)).collect();
+    for length in LENGTHS {
+        scripts.extend(of_length(length).iter().map(|line| as_script(line)));
+    }
+    scripts
+}
+
+const ENDS: [&[u8]; 18] = [
+    b"",
+    b"\n",
+    b"\n\n\n",
+    b" ",
+    b"#",
+    b"# event 1",
+    b"event 16384",
+    b"event 16384 ",
+    b"event 16384\r",
+    b"event 16384\nbench",
+    b"event 16384\n\nbench #",
+    b"bench\n#",
+    b"bench\n ",
+    b"eve",
+    b"\0",
+    b"\xff",
+    b"panel",
+    b"event 1\npanel\n\npanel\nbench",
+];
+
+/// The lines of a text, the last one without a newline if the text has none there.
+fn as_script(text: &[u8]) -> Script {
+    let mut script = Script::default();
+    let mut rest = text;
+    while let Some(end) = rest.iter().position(|&byte| byte == b'\n') {
+        script.line(&rest[..end]);
+        rest = &rest[end + 1..];
+    }
+    if !rest.is_empty() {
+        script.without_newline(rest);
+    }
+    script
+}
+
+// ---- Lines made by rule ----
+
+/// Every byte but the newline, at the places where it could be taken for something else.
+fn with_every_byte() -> Vec<Vec<u8>> {
+    let mut lines = Vec::new();
+    for byte in (0..=u8::MAX).filter(|&byte| byte != b'\n') {
+        let forms: [(&[u8], &[u8]); 9] = [
+            (b"", b""),
+            (b"", b"event 64"),
+            (b"event", b"64"),
+            (b"event ", b" 64"),
+            (b"event 64", b""),
+            (b"event 64 ", b""),
+            (b"event 64 # ", b" x"),
+            (b"# ", b""),
+            (b"reading roll 0x40240000000000", b"0"),
+        ];
+        lines.extend(forms.map(|(before, after)| [before, &[byte], after].concat()));
+    }
+    lines
+}
+
+/// Lines of one length. In those that are too long a command stands at the end, where a reader
+/// that cuts lines into pieces would find it.
+fn of_length(length: usize) -> Vec<Vec<u8>> {
+    let event = b"event 64".as_slice();
+    let forms: [(&[u8], u8, &[u8]); 11] = [
+        (b"", b' ', b""),
+        (b"#", b'x', b""),
+        (b"", b'x', b""),
+        (b"", 0, b""),
+        (b"", 0xff, b""),
+        (b"", b' ', event),
+        (event, b' ', b""),
+        (event, b'#', event),
+        (b"event", b' ', b"64"),
+        (b"event ", b'0', b"64"),
+        (b"reading roll ", b'0', b".5"),
+    ];
+    let filled = |(start, filler, end): (&[u8], u8, &[u8])| {
+        let middle = vec![filler; length - start.len() - end.len()];
+        [start, &middle, end].concat()
+    };
+    forms.map(filled).to_vec()
+}
+
+// ---- Lines made by chance ----
+
+/// Valid lines with some bytes or words changed. Some stay valid and act.
+fn mutated(rng: &mut Rng) -> Script {
+    let mut script = Script::default();
+    for index in 0..MUTATIONS {
+        let line = rng.pick(&lines::VALID).as_bytes().to_vec();
+        script.line(mutate(line, rng));
+        if index % 4 == 3 {
+            script.line("bench");
+        }
+        // What stays valid may damage the bench, and all calls would be refused from there on.
+        if index % 16 == 15 {
+            script.line("power-on");
+        }
+    }
+    script
+}
+
+fn mutate(mut line: Vec<u8>, rng: &mut Rng) -> Vec<u8> {
+    for _ in 0..1 + rng.below(3) {
+        let at = rng.below(line.len() + 1);
+        match rng.below(6) {
+            0 => line.insert(at, other_byte(rng)),
+            1 if at < line.len() => line[at] = other_byte(rng),
+            2 if at < line.len() => line[at] ^= 1 << rng.below(8),
+            3 if at < line.len() => {
+                line.remove(at);
+            }
+            4 => line.truncate(at),
+            _ => line = with_word_changed(&line, rng),
+        }
+    }
+    // A newline would make two lines of it.
+    line.retain(|&byte| byte != b'\n');
+    line
+}
+
+/// Mostly bytes of the language, so that the line stays close to one that is valid.
+fn other_byte(rng: &mut Rng) -> u8 {
+    if rng.percent(80) {
+        rng.pick(b" 0123456789-.#xabcdefnr")
+    } else {
+        rng.below(256) as u8
+    }
+}
+
+/// A word doubled, dropped, or exchanged with another.
+fn with_word_changed(line: &[u8], rng: &mut Rng) -> Vec<u8> {
+    let mut words: Vec<&[u8]> = line.split(|&byte| byte == b' ').collect();
+    let (at, other) = (rng.below(words.len()), rng.below(words.len()));
+    match rng.below(3) {
+        0 => words.insert(at, words[at]),
+        1 => drop(words.remove(at)),
+        _ => words.swap(at, other),
+    }
+    words.join(&b' ')
+}
+
+#[cfg(test)]
+mod tests {
+    use super::*;
+    use crate::script;
+    use std::collections::BTreeSet;
+
+    #[test]
+    fn lines_of_a_length_have_that_length() {
+        for length in LENGTHS {
+            for line in of_length(length) {
+                assert_eq!(line.len(), length);
+                let blank = line.iter().all(|&byte| byte == b' ') || line[0] == b'#';
+                assert_eq!(script::is_answered(&line), length > 255 || !blank);
+            }
+        }
+        for length in [254, 255, 256, 257, 300, 10_000] {
+            assert!(LENGTHS.contains(&length));
+        }
+    }
+
+    #[test]
+    fn every_byte_but_the_newline_stands_at_every_place() {
+        let lines = with_every_byte();
+        assert_eq!(lines.len(), 255 * 9);
+        assert!(!lines.concat().contains(&b'\n'));
+        for line in [
+            b"event\t64".as_slice(),
+            b"event 64\r",
+            b"\0",
+            b"# \x80",
+            b"event 64 # \xff x",
+        ] {
+            assert!(lines.contains(&line.to_vec()), "{line:?}");
+        }
+    }
+
+    #[test]
+    fn whole_scripts_are_what_they_are_made_of() {
+        for text in ENDS {
+            assert_eq!(as_script(text).text(), text);
+        }
+        let scripts = whole_scripts();
+        assert_eq!(scripts.len(), ENDS.len() + LENGTHS.len() * 11);
+        assert!(scripts[0].text().is_empty());
+        let open = scripts
+            .iter()
+            .filter(|script| !script.text().ends_with(b"\n"));
+        assert_eq!(open.count(), scripts.len() - 2);
+    }
+
+    #[test]
+    fn the_bench_is_shown_after_each_line() {
+        let script = shown_after_each(["event 1", "", "x"]);
+        let start = "power-on\nevent 16384\n";
+        let expected = format!("{start}event 1\nbench\n{start}\nbench\n{start}x\nbench\n");
+        assert_eq!(script.text(), expected.as_bytes());
+        assert_eq!(script.commands(), 3 * 4 - 1);
+    }
+
+    #[test]
+    fn mutated_lines_are_many_and_different() {
+        let script = mutated(&mut Rng::of_list(1, LIST));
+        let lines = script::lines(script.text());
+        assert_eq!(lines.len(), MUTATIONS + MUTATIONS / 4 + MUTATIONS / 16);
+        let different: BTreeSet<&[u8]> = lines.iter().copied().collect();
+        assert!(different.len() > MUTATIONS / 2, "{}", different.len());
+        let answered = lines.iter().filter(|line| script::is_answered(line));
+        assert_eq!(answered.count(), script.commands());
+    }
+
+    #[test]
+    fn a_mutation_never_makes_two_lines() {
+        let mut rng = Rng::of_list(2, LIST);
+        for _ in 0..10_000 {
+            let line = mutate(b"send 0".to_vec(), &mut rng);
+            assert!(!line.contains(&b'\n'));
+        }
+    }
+}

@@ -1,0 +1,188 @@
+//! Lines that are commands, and lines that look like commands.
+
+/// One of each form, as they should be.
+pub const VALID: [&str; 30] = [
+    "event 16384",
+    "event 0",
+    "event 4294967295",
+    "turn 0 9",
+    "turn 3 255",
+    "turn 4 0",
+    "reading altitude -12.5",
+    "reading airspeed 123.456",
+    "reading vertical-speed 299.5",
+    "reading heading 0x4076740000000000",
+    "reading roll nan",
+    "reading pitch inf",
+    "reading pitch -inf",
+    "send 0",
+    "send 1",
+    "refresh 0",
+    "refresh 1",
+    "display 0",
+    "display 1",
+    "pick 0",
+    "pick 2",
+    "power-on",
+    "bench",
+    "panel",
+    "damage pf 1",
+    "damage left set 2 0 1 0",
+    "damage right-inbox set 0 0 0 0",
+    "damage left-inbox held -8000",
+    "damage right ias 250",
+    "damage reading vertical-speed 300.5",
+];
+
+/// Lines with too few and too many words, then others that are written out.
+pub fn fixed() -> Vec<String> {
+    let mut lines: Vec<String> = VALID.map(String::from).to_vec();
+    for line in VALID {
+        lines.extend(with_words_missing(line));
+        lines.extend(
+            [" 0", " x", " 0 0 0 0 0 0 0 0 0 0 0 0", " #", "#", "# 0 0"]
+                .map(|end| format!("{line}{end}")),
+        );
+        lines.extend(
+            [" ", "   ", "\t", "#", "# ", "-", "\u{a0}"].map(|start| format!("{start}{line}")),
+        );
+        lines.push(line.to_uppercase());
+        lines.push(capitalized(line));
+        lines.push(line.replace(' ', "   "));
+        lines.push(line.replace(' ', "\t"));
+        lines.push(line.replace(' ', ","));
+        lines.push(line.replace('-', "_"));
+        lines.push(format!("{line}\r"));
+        lines.push(format!("{line}; {line}"));
+        lines.push(format!("{line} {line}"));
+    }
+    lines.extend(ODD.map(String::from));
+    lines
+}
+
+/// The line cut after each of its words but the last.
+fn with_words_missing(line: &str) -> Vec<String> {
+    let words: Vec<&str> = line.split(' ').collect();
+    (1..words.len())
+        .map(|count| words[..count].join(" "))
+        .collect()
+}
+
+fn capitalized(line: &str) -> String {
+    let (first, rest) = line.split_at(1);
+    first.to_uppercase() + rest
+}
+
+const ODD: [&str; 62] = [
+    "",
+    "   ",
+    "#",
+    "##",
+    "  # event 1",
+    "#event 1",
+    "event 1#x",
+    "event 1 #",
+    "event #1",
+    "event#1",
+    "ev#ent 1",
+    "# panel",
+    "events 1",
+    "even 1",
+    "event1",
+    "event=1",
+    "event: 1",
+    "\"event\" 1",
+    "event '1'",
+    "turn 0",
+    "turn 0,1",
+    "turn wheel 1",
+    "turns 0 1",
+    "reading",
+    "reading speed 1",
+    "reading preselected 1",
+    "reading held 1",
+    "reading ias 1",
+    "reading Roll 1",
+    "reading vertical speed 1",
+    "reading 3 1",
+    "reading 12.5 roll",
+    "send left",
+    "refresh right",
+    "display",
+    "display both",
+    "display 0 1",
+    "pick",
+    "poweron",
+    "power on",
+    "power-on 0",
+    "power-on 1",
+    "bench 0",
+    "panel 0",
+    "end",
+    "error 1: x",
+    "help",
+    "quit",
+    "damage",
+    "damage pf left",
+    "damage pf set 1 0 1 0",
+    "damage reading set 1 0 1 0",
+    "damage reading left 1",
+    "damage left reading roll 1",
+    "damage left altitude 1",
+    "damage left airspeed 100",
+    "damage left fd 1",
+    "damage ap 1",
+    "damage middle heading 1",
+    "damage inbox heading 1",
+    "damage left_inbox heading 1",
+    "damage 0 heading 1",
+];
+
+#[cfg(test)]
+mod tests {
+    use super::*;
+    use crate::script::is_answered;
+
+    #[test]
+    fn every_command_of_the_language_is_there() {
+        for name in [
+            "event", "turn", "reading", "send", "refresh", "display", "pick", "power-on", "bench",
+            "panel", "damage",
+        ] {
+            let found = VALID
+                .iter()
+                .any(|line| line.split(' ').next() == Some(name));
+            assert!(found, "{name}");
+        }
+    }
+
+    #[test]
+    fn words_are_missing_and_surplus() {
+        let all = fixed();
+        for line in [
+            "damage left set 2 0 1",
+            "damage left set",
+            "turn 0",
+            "reading roll",
+            "send 0 0",
+            "bench x",
+            "EVENT 16384",
+            "Panel",
+            "turn\t0\t9",
+            "pick 0\r",
+            "event 16384#",
+            "   power-on",
+        ] {
+            assert!(all.contains(&line.to_string()), "{line}");
+        }
+        assert!(all.iter().all(|line| !line.contains('\n')));
+    }
+
+    #[test]
+    fn some_lines_have_no_answer() {
+        let silent = fixed()
+            .into_iter()
+            .filter(|line| !is_answered(line.as_bytes()));
+        assert_eq!(silent.count(), 2 * VALID.len() + 7);
+    }
+}

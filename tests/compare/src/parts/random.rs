@@ -1,0 +1,340 @@
+//! Lists of calls by chance.
+
+mod values;
+
+use std::collections::BTreeSet;
+
+use super::words::{self, Set, BOXES, KINDS, REFERENCES};
+use crate::compare;
+use crate::gate::{Gate, Stop};
+use crate::rng::Rng;
+use crate::script::Script;
+
+const LISTS: u64 = 4;
+
+/// So long that the last line numbers do not fit in 16 bits.
+const LENGTH: usize = 100_000;
+
+/// Fewer On sets shown in all lists together would mean that the lists stay near power-on, from
+/// where 105 of the 107 can be reached.
+const FEWEST_SETS: usize = 100;
+
+pub fn run(gate: &mut Gate) -> Result<(), Stop> {
+    let mut shown = BTreeSet::new();
+    for number in 0..LISTS {
+        let output = gate.check(&list(gate.seed, number, LENGTH))?;
+        collect_shown(&output, &mut shown);
+    }
+    if shown.len() < FEWEST_SETS {
+        return Err(gate.reject(&format!("the displays show only {} On sets", shown.len())));
+    }
+    Ok(())
+}
+
+/// Lateral law, vertical law and armed sum of the accepted displays with modes on.
+fn collect_shown(output: &[u8], shown: &mut BTreeSet<Vec<u8>>) {
+    for answer in compare::answers(output) {
+        let words: Vec<&[u8]> = answer.split(|&byte| byte == b' ').collect();
+        if let [b"display", b"0", _, lateral, vertical, armed, ..] = words[..] {
+            if lateral != b"0" {
+                shown.insert([lateral, vertical, armed].join(&b' '));
+            }
+        }
+    }
+}
+
+/// A list of that many commands from power-on. Every second list is calm: it has neither damage
+/// nor errors, and so no `power-on` that would take it back to the start.
+pub fn list(seed: u64, number: u64, length: usize) -> Script {
+    let mut maker = Maker {
+        rng: Rng::of_list(seed, number),
+        counts: [0; 4],
+        calm: number.is_multiple_of(2),
+        until_power_on: None,
+    };
+    let mut script = Script::default();
+    while script.commands() < length {
+        script.line(maker.line());
+    }
+    script
+}
+
+struct Maker {
+    rng: Rng,
+    /// The last counts given, so that most turns are small.
+    counts: [u8; 4],
+    calm: bool,
+    /// After a damage, how many calls come ahead of the next power-on.
+    until_power_on: Option<usize>,
+}
+
+type Make = fn(&mut Maker) -> String;
+
+/// Commands of every list, by weight.
+const CALM: [(usize, Make); 8] = [
+    (400, Maker::event),
+    (140, Maker::turn),
+    (130, Maker::reading),
+    (60, |maker| maker.on_side("send")),
+    (70, |maker| maker.on_side("refresh")),
+    (160, |maker| maker.on_side("display")),
+    (20, |maker| maker.on_side("pick")),
+    (20, |_| "bench".to_string()),
+];
+
+/// Events by weight: those that arm and capture more often than those that clear, because an
+/// approach needs several of them in a row.
+const EVENTS: [(usize, u32); 20] = [
+    (2, 0),
+    (3, 1),
+    (2, 2),
+    (3, 3),
+    (3, 4),
+    (2, 5),
+    (1, 6),
+    (1, 7),
+    (1, 8),
+    (6, 9),
+    (6, 10),
+    (5, 11),
+    (6, 12),
+    (4, 13),
+    (4, 14),
+    (6, 15),
+    (7, 16),
+    (5, 17),
+    (5, 18),
+    (4, 19),
+];
+
+/// What only the other lists have.
+const ROUGH: [(usize, Make); 4] = [
+    (10, Maker::damage),
+    (8, |maker| maker.rng.pick(&ERRORS).to_string()),
+    (2, |_| "panel".to_string()),
+    (1, Maker::power_on),
+];
+
+impl Maker {
+    fn line(&mut self) -> String {
+        match self.until_power_on {
+            Some(0) => return self.power_on(),
+            Some(calls) => self.until_power_on = Some(calls - 1),
+            None => {}
+        }
+        if !self.calm && self.rng.below(50) == 0 {
+            return self.rng.weighted(&ROUGH)(self);
+        }
+        self.rng.weighted(&CALM)(self)
+    }
+
+    fn power_on(&mut self) -> String {
+        self.until_power_on = None;
+        self.counts = [0; 4];
+        "power-on".to_string()
+    }
+
+    fn event(&mut self) -> String {
+        let bit = words::word(self.rng.weighted(&EVENTS));
+        let any = self.rng.next() as u32;
+        let low_bits = (1 << 20) - 1;
+        let word = match self.rng.below(100) {
+            0..=87 => bit,
+            // The bits above are to be lost.
+            88..=91 => bit | (any & low_bits & !(bit - 1)),
+            92..=93 => any & low_bits,
+            94 => 0,
+            95..=96 => words::word(20 + self.rng.below(12) as u32) | any & low_bits,
+            97 => words::word(self.rng.below(32) as u32),
+            98 => self.rng.pick(&[1 << 20, 1 << 31, u32::MAX, (1 << 20) - 1]),
+            _ => any,
+        };
+        format!("event {word}")
+    }
+
+    fn turn(&mut self) -> String {
+        let knob = self.rng.below(4);
+        let step = match self.rng.below(10) {
+            0..=6 => self.rng.between(-5, 5),
+            7..=8 => self.rng.between(-40, 40),
+            _ => self.rng.between(-128, 127),
+        };
+        if self.rng.percent(3) {
+            let none = self.rng.pick(&[4, 5, 255, 256, 1 << 31, u32::MAX]);
+            return format!("turn {none} {}", self.rng.below(256));
+        }
+        let count = self.counts[knob].wrapping_add(step as u8);
+        self.counts[knob] = count;
+        format!("turn {knob} {count}")
+    }
+
+    fn reading(&mut self) -> String {
+        let kind = self.rng.pick(&KINDS);
+        format!(
+            "reading {} {}",
+            kind.name,
+            values::value(kind, &mut self.rng)
+        )
+    }
+
+    fn on_side(&mut self, command: &str) -> String {
+        let side = match self.rng.below(100) {
+            0..=96 => self.rng.below(2) as u32,
+            _ => self.rng.pick(&[2, 3, 256, 1 << 31, u32::MAX]),
+        };
+        format!("{command} {side}")
+    }
+
+    fn damage(&mut self) -> String {
+        self.until_power_on.get_or_insert(1 + self.rng.below(8));
+        let place = self.rng.pick(&BOXES);
+        match self.rng.below(8) {
+            0 => format!("damage pf {}", self.rng.pick(&[0, 1, 1, 2, 255])),
+            1 => self.reading().replacen("reading", "damage reading", 1),
+            2..=4 => self.damaged_reference(place),
+            _ => format!("damage {place} set {}", self.any_set()),
+        }
+    }
+
+    fn damaged_reference(&mut self, place: &str) -> String {
+        let reference = self.rng.pick(&REFERENCES);
+        let (low, high) = (i64::from(reference.low), i64::from(reference.high));
+        let value = match self.rng.below(10) {
+            0 => i64::from(self.rng.next() as i32),
+            1..=3 => self.rng.pick(&[low - 1, low, high, high + 1]),
+            _ => self.rng.between(low, high),
+        };
+        format!("damage {place} {} {value}", reference.name)
+    }
+
+    fn any_set(&mut self) -> Set {
+        if self.rng.percent(10) {
+            return Set::OFF;
+        }
+        let mut number = |count| self.rng.below(count) as u8;
+        Set::new(1 + number(5), number(3), 1 + number(8), number(2))
+    }
+}
+
+/// Each is answered by an error.
+const ERRORS: [&str; 16] = [
+    "event",
+    "event x",
+    "event 4294967296",
+    "event 1 2",
+    "turn 0 256",
+    "turn 0",
+    "reading roll 1e5",
+    "reading speed 1",
+    "reading roll 0x123",
+    "send left",
+    "refresh -1",
+    "Display 0",
+    "power-on 1",
+    "damage left set 6 0 1 0",
+    "damage left ias 2147483648",
+    "event\t1",
+];
+
+#[cfg(test)]
+mod tests {
+    use super::*;
+    use std::collections::BTreeMap;
+
+    fn text(script: &Script) -> &str {
+        std::str::from_utf8(script.text()).unwrap()
+    }
+
+    /// How often each command stands in a list.
+    fn counts(script: &Script) -> BTreeMap<&str, usize> {
+        let mut counts = BTreeMap::new();
+        for line in text(script).lines() {
+            *counts.entry(line.split(' ').next().unwrap()).or_default() += 1;
+        }
+        counts
+    }
+
+    #[test]
+    fn lists_have_their_length_and_depend_on_seed_and_number() {
+        let first = list(1, 0, 1_000);
+        assert_eq!(first.commands(), 1_000);
+        assert_eq!(list(1, 0, 1_000).text(), first.text());
+        assert_ne!(list(2, 0, 1_000).text(), first.text());
+        assert_ne!(list(1, 2, 1_000).text(), first.text());
+        assert!(LISTS as usize * LENGTH >= 250_000);
+    }
+
+    #[test]
+    fn a_list_has_all_calls_often_enough() {
+        for number in 0..2 {
+            let script = list(1, number, 20_000);
+            let counts = counts(&script);
+            for name in [
+                "event", "turn", "reading", "send", "refresh", "display", "pick", "bench",
+            ] {
+                assert!(counts.get(name) > Some(&250), "{name} {counts:?}");
+            }
+        }
+    }
+
+    #[test]
+    fn only_rough_lists_have_damage_and_errors() {
+        let (calm, rough) = (list(1, 0, 20_000), list(1, 1, 20_000));
+        for name in ["damage", "power-on", "panel", "Display"] {
+            assert_eq!(counts(&calm).get(name), None, "{name}");
+            assert!(counts(&rough).contains_key(name), "{name}");
+        }
+    }
+
+    #[test]
+    fn every_event_comes_alone_and_in_company_and_bad_words_come_too() {
+        let script = list(1, 0, 200_000);
+        let lines: BTreeSet<&str> = text(&script).lines().collect();
+        for event in 0..32 {
+            assert!(
+                lines.contains(format!("event {}", 1_u32 << event).as_str()),
+                "{event}"
+            );
+        }
+        for line in [
+            "event 0",
+            "send 2",
+            "display 2",
+            "turn 4294967295 ",
+            "reading roll nan",
+        ] {
+            assert!(lines.iter().any(|other| other.starts_with(line)), "{line}");
+        }
+    }
+
+    #[test]
+    fn after_a_damage_the_power_comes_on_again_soon() {
+        let script = list(1, 1, 50_000);
+        let mut since = None;
+        let mut damages = 0;
+        for line in text(&script).lines() {
+            since = match (since, line.split(' ').next()) {
+                (_, Some("power-on")) if line == "power-on" => None,
+                (Some(calls), _) => Some(calls + 1),
+                (None, Some("damage")) if !ERRORS.contains(&line) => {
+                    damages += 1;
+                    Some(0)
+                }
+                (None, _) => None,
+            };
+            assert!(since <= Some(8));
+        }
+        assert!(damages > 200, "{damages}");
+    }
+
+    #[test]
+    fn shown_sets_are_collected_from_accepted_displays() {
+        let mut shown = BTreeSet::new();
+        let output = b"display 0 1 2 1 4 0 0 0 0 90 0 0 129\nevent 0 3 1 2\n\
+            display 0 0 2 1 4 7 7 7 7 90 0 0 129\ndisplay 2 0 0 0 0 0 0 0 0 0 0 0 0\n\
+            display 0 1 0 0 0 0 0 0 0 90 0 0 128\ndisplay 0 1 4 7 0 0 0 0 0 90 0 0 128\n";
+        collect_shown(output, &mut shown);
+        let expected = [b"2 1 4".to_vec(), b"4 7 0".to_vec()];
+        assert_eq!(shown, BTreeSet::from(expected));
+    }
+}

@@ -1,0 +1,91 @@
+//! Values of readings by chance.
+
+use crate::parts::words::{pattern, Ranged};
+use crate::rng::Rng;
+
+/// Mostly in the range of a kind or close to it.
+pub fn value(kind: Ranged, rng: &mut Rng) -> String {
+    let (low, high) = (i64::from(kind.low), i64::from(kind.high));
+    match rng.below(100) {
+        0..=39 => decimal(rng.between(low, high), rng),
+        40..=64 => decimal(rng.between(-60, 60).clamp(low, high), rng),
+        65..=79 => {
+            let end = rng.pick(&[low, high]);
+            decimal(end + rng.between(-2, 2), rng)
+        }
+        80..=91 => beside_a_quarter(low, high, rng),
+        92..=95 => rng.pick(&SPECIAL).to_string(),
+        96..=97 => decimal(rng.between(-100_000, 100_000), rng),
+        _ => pattern(f64::from_bits(rng.next())),
+    }
+}
+
+/// A whole number, or one with a fraction, a half more often than others.
+fn decimal(whole: i64, rng: &mut Rng) -> String {
+    let sign = if whole < 0 || (whole == 0 && rng.percent(30)) {
+        "-"
+    } else {
+        ""
+    };
+    let units = whole.abs();
+    match rng.below(10) {
+        0..=2 => format!("{sign}{units}"),
+        3..=6 => format!("{sign}{units}.5"),
+        7 => format!(
+            "{sign}{units}.{}",
+            rng.pick(&["25", "75", "0", "50", "49", "51"])
+        ),
+        _ => format!("{sign}{units}.{:03}", rng.below(1_000)),
+    }
+}
+
+/// The pattern of a quarter unit in the range, or of a float next to it.
+fn beside_a_quarter(low: i64, high: i64, rng: &mut Rng) -> String {
+    let quarters = rng.between(4 * low - 8, 4 * high + 8);
+    let value = quarters as f64 / 4.0;
+    pattern(match rng.below(3) {
+        0 => value.next_down(),
+        1 => value,
+        _ => value.next_up(),
+    })
+}
+
+const SPECIAL: [&str; 12] = [
+    "nan",
+    "inf",
+    "-inf",
+    "-0",
+    "0.000000000000001",
+    "999999999999999",
+    "-999999999999999",
+    "0x7ff0000000000001",
+    "0x0000000000000001",
+    "0x800fffffffffffff",
+    "0x7fefffffffffffff",
+    "4294967296",
+];
+
+#[cfg(test)]
+mod tests {
+    use super::*;
+    use crate::parts::words::KINDS;
+
+    #[test]
+    fn most_values_are_in_range_and_some_are_not() {
+        let mut rng = Rng::of_list(1, 0);
+        for kind in KINDS {
+            let values: Vec<String> = (0..2_000).map(|_| value(kind, &mut rng)).collect();
+            let good = values.iter().filter(|value| {
+                let whole = value.parse::<f64>().map(f64::round_ties_even);
+                let range = f64::from(kind.low)..=f64::from(kind.high);
+                whole.is_ok_and(|whole| range.contains(&whole))
+            });
+            let good = good.count();
+            assert!((1_200..1_900).contains(&good), "{} {good}", kind.name);
+            assert!(values.iter().any(|value| value.starts_with("0x")));
+            assert!(values.contains(&"nan".to_string()));
+            let halves = values.iter().filter(|value| value.ends_with(".5")).count();
+            assert!(halves > 300, "{halves}");
+        }
+    }
+}

@@ -1,0 +1,140 @@
+//! The words of the script language, with the ranges of document 01 around which the scripts probe.
+
+use std::fmt;
+
+/// A kind of reading or a reference, with its range.
+#[derive(Clone, Copy)]
+pub struct Ranged {
+    pub name: &'static str,
+    pub low: i32,
+    pub high: i32,
+}
+
+const fn ranged(name: &'static str, low: i32, high: i32) -> Ranged {
+    Ranged { name, low, high }
+}
+
+pub const KINDS: [Ranged; 6] = [
+    ranged("altitude", -8_000, 56_000),
+    ranged("airspeed", 0, 600),
+    ranged("vertical-speed", -300, 300),
+    ranged("roll", -180, 179),
+    ranged("pitch", -90, 89),
+    ranged("heading", 0, 359),
+];
+
+pub const REFERENCES: [Ranged; 7] = [
+    ranged("heading", 0, 359),
+    ranged("preselected", -8_000, 56_000),
+    ranged("held", -8_000, 56_000),
+    ranged("vertical-speed", -50, 50),
+    ranged("ias", 60, 400),
+    ranged("roll", -27, 27),
+    ranged("pitch", -20, 20),
+];
+
+pub const SIDES: [&str; 2] = ["left", "right"];
+pub const BOXES: [&str; 4] = ["left", "right", "left-inbox", "right-inbox"];
+
+/// The event word with only the bit of that event.
+pub fn word(event: u32) -> u32 {
+    1 << event
+}
+
+/// What the `set` of a damage names; lateral 0 is Off.
+#[derive(Clone, Copy, PartialEq, Eq, Debug)]
+pub struct Set {
+    pub lateral: u8,
+    pub armed: u8,
+    pub vertical: u8,
+    pub vappr: u8,
+}
+
+impl Set {
+    pub const OFF: Set = Set::new(0, 0, 0, 0);
+
+    pub const fn new(lateral: u8, armed: u8, vertical: u8, vappr: u8) -> Set {
+        Set {
+            lateral,
+            armed,
+            vertical,
+            vappr,
+        }
+    }
+}
+
+impl fmt::Display for Set {
+    fn fmt(&self, output: &mut fmt::Formatter) -> fmt::Result {
+        let Set { lateral, armed, .. } = self;
+        write!(output, "{lateral} {armed} {} {}", self.vertical, self.vappr)
+    }
+}
+
+/// All 240 On sets that can be written, coherent or not.
+pub fn on_sets() -> Vec<Set> {
+    let mut sets = Vec::new();
+    for lateral in 1..=5 {
+        for armed in 0..=2 {
+            for vertical in 1..=8 {
+                sets.push(Set::new(lateral, armed, vertical, 0));
+                sets.push(Set::new(lateral, armed, vertical, 1));
+            }
+        }
+    }
+    sets
+}
+
+pub fn pattern(value: f64) -> String {
+    format!("0x{:016x}", value.to_bits())
+}
+
+/// The patterns of a float and of the two floats beside it.
+pub fn patterns_at(value: f64) -> [String; 3] {
+    [value.next_down(), value, value.next_up()].map(pattern)
+}
+
+/// The ends of a range, a half and a whole unit beside them, and the next float on each side of
+/// all these. Whatever the rule for ties, the last accepted and the first refused are among them.
+pub fn values_at_ends(range: Ranged) -> Vec<String> {
+    let mut values = Vec::new();
+    for end in [range.low, range.high] {
+        for halves in -3..=3 {
+            values.extend(patterns_at(f64::from(end) + f64::from(halves) / 2.0));
+        }
+    }
+    values
+}
+
+#[cfg(test)]
+mod tests {
+    use super::*;
+    use std::collections::BTreeSet;
+
+    #[test]
+    fn there_are_240_different_on_sets() {
+        let sets: BTreeSet<String> = on_sets().iter().map(Set::to_string).collect();
+        assert_eq!(sets.len(), 240);
+        assert!(sets.contains("1 0 1 0") && sets.contains("5 2 8 1"));
+        assert_eq!(Set::OFF.to_string(), "0 0 0 0");
+    }
+
+    #[test]
+    fn the_floats_beside_zero_are_the_smallest() {
+        let expected = [
+            "0x8000000000000001",
+            "0x0000000000000000",
+            "0x0000000000000001",
+        ];
+        assert_eq!(patterns_at(0.0), expected);
+    }
+
+    #[test]
+    fn the_ends_of_a_range_come_with_their_ties() {
+        let values = values_at_ends(KINDS[5]);
+        assert_eq!(values.len(), 2 * 7 * 3);
+        for value in [-0.5, 0.0, 1.0, 358.5, 359.0, 359.5, 360.0] {
+            assert!(values.contains(&pattern(value)), "{value}");
+        }
+        assert!(values.contains(&pattern(359.5_f64.next_down())));
+    }
+}
