@@ -89,10 +89,9 @@ fn clear_vappr(m: Modes) -> Modes
     let v = m.vertical;
     let law = vertical_number(v);
     let unarmed = with_vappr_armed(m, false);
-    if law == 7 {
-        with_vertical(unarmed, Vertical::Pitch)
-    } else {
-        unarmed
+    match law {
+        7 => with_vertical(unarmed, Vertical::Pitch),
+        _ => unarmed,
     }
 }
 
@@ -104,10 +103,9 @@ fn clear_lappr(m: Modes) -> Modes
     let a = m.armed;
     let law = lateral_number(l);
     let unarmed = with_armed(clear_vappr(m), lappr_not_armed(a));
-    if law == 4 {
-        with_lateral(unarmed, Lateral::Roll)
-    } else {
-        unarmed
+    match law {
+        4 => with_lateral(unarmed, Lateral::Roll),
+        _ => unarmed,
     }
 }
 
@@ -119,10 +117,9 @@ fn clear_nav(m: Modes) -> Modes
     let a = m.armed;
     let law = lateral_number(l);
     let unarmed = with_armed(m, nav_not_armed(a));
-    if law == 3 {
-        with_lateral(unarmed, Lateral::Roll)
-    } else {
-        unarmed
+    match law {
+        3 => with_lateral(unarmed, Lateral::Roll),
+        _ => unarmed,
     }
 }
 
@@ -150,10 +147,9 @@ fn to_vertical(m: Modes, v: Vertical) -> Modes
 {
     let was = m.vertical;
     let law = vertical_number(was);
-    if law == 7 {
-        with_vertical(with_vappr_armed(m, false), v)
-    } else {
-        with_vertical(m, v)
+    match law {
+        7 => with_vertical(with_vappr_armed(m, false), v),
+        _ => with_vertical(m, v),
     }
 }
 
@@ -250,10 +246,9 @@ fn altsel_on_track(m: Modes) -> Modes
 {
     let v = m.vertical;
     let law = vertical_number(v);
-    if law == 5 {
-        with_vertical(m, Vertical::AltselTrack)
-    } else {
-        m
+    match law {
+        5 => with_vertical(m, Vertical::AltselTrack),
+        _ => m,
     }
 }
 
@@ -263,10 +258,9 @@ fn hdg_switch(m: Modes) -> Modes
 {
     let l = m.lateral;
     let law = lateral_number(l);
-    if law == 2 {
-        with_lateral(m, Lateral::Roll)
-    } else {
-        to_lateral(m, Lateral::Hdg)
+    match law {
+        2 => with_lateral(m, Lateral::Roll),
+        _ => to_lateral(m, Lateral::Hdg),
     }
 }
 

@@ -87,6 +87,14 @@ fn display(s: Session, side: u32, out: &mut [u8]) -> Session
     with(s, next, waiting)
 }
 
+fn pick(s: Session, side: u32, out: &mut [u8]) -> Session
+    ensures { λ res. ⌜ res .bench ≡ s .bench ⌝ }
+{
+    let b = s.bench;
+    let waiting = answers::put_pick(out, s.waiting, guidance::pick(b, side));
+    with(s, b, waiting)
+}
+
 // A bench that was put in place of the session's.
 fn placed(s: Session, name: &[u8], bench: Bench, out: &mut [u8]) -> Session
     ensures { λ res. ⌜ res .bench ≡ bench ⌝ }
@@ -94,6 +102,13 @@ fn placed(s: Session, name: &[u8], bench: Bench, out: &mut [u8]) -> Session
     answered(s, name, Answer { refusal: 0, bench }, out)
 }
 
+fn damaged(s: Session, bench: Bench, out: &mut [u8]) -> Session
+    ensures { λ res. ⌜ res .bench ≡ bench ⌝ }
+{
+    placed(s, b"damage", bench, out)
+}
+
+// The session after a command.
 fn carry_out(s: Session, c: Command, out: &mut [u8]) -> Session
     ensures { λ res. ⌜ res .bench ≡ benchAfter c (s .bench) ⌝ }
 {
@@ -105,28 +120,18 @@ fn carry_out(s: Session, c: Command, out: &mut [u8]) -> Session
         Command::Send(side) => answered(s, b"send", calls::send(b, side), out),
         Command::Refresh(side) => answered(s, b"refresh", calls::refresh(b, side), out),
         Command::Display(side) => display(s, side, out),
-        Command::Pick(side) => with(
-            s,
-            b,
-            answers::put_pick(out, s.waiting, guidance::pick(b, side)),
-        ),
+        Command::Pick(side) => pick(s, side, out),
         Command::Turn(knob, count) => answered(s, b"turn", calls::turn(b, knob, count), out),
         Command::Reading(r) => answered(s, b"reading", calls::reading(b, r), out),
         Command::PowerOn => placed(s, b"power-on", bench::power_on(), out),
         Command::Bench => with(s, b, answers::put_bench(out, s.waiting, b)),
         Command::Panel => with(s, b, panel::put_panel(out, s.waiting, b)),
-        Command::DamagePf(n) => placed(s, b"damage", damage::damage_pf(b, n), out),
-        Command::DamageReading(r) => placed(s, b"damage", damage::damage_reading(b, r), out),
-        Command::DamageSet(part, set) => placed(
+        Command::DamagePf(n) => damaged(s, damage::damage_pf(b, n), out),
+        Command::DamageReading(r) => damaged(s, damage::damage_reading(b, r), out),
+        Command::DamageSet(part, set) => damaged(s, damage::damage_set(b, part, set), out),
+        Command::DamageReference(part, n, x) => damaged(
             s,
-            b"damage",
-            damage::damage_set(b, part, set),
-            out,
-        ),
-        Command::DamageReference(part, reference, x) => placed(
-            s,
-            b"damage",
-            damage::damage_reference(b, part, reference, x),
+            damage::damage_reference(b, part, n, x),
             out,
         ),
     }

@@ -13,5 +13,5 @@ altsel-on-track-spec =
     (tie.spec
     (λ c κs. search needs)
     (λ c κs. search needs)
-    (λ c. rw (c .with-vertical .ensures) (on-track (c .before .before .before .args .m) true (eq-eqb _ _ (sym (c .before .before .vertical-number .ensures) ∙ c .before .if1 .taken))))
-    (λ c. on-track (c .before .before .args .m) false (ne-eqb _ _ (λ e. c .if1 .left (c .before .vertical-number .ensures ∙ e)))))
+    (λ c. rw (c .with-vertical .ensures) (on-track (c .before .before .before .args .m) true (eq-eqb _ _ (sym (c .before .before .vertical-number .ensures) ∙ c .before .match .keys1))))
+    (λ c. on-track (c .before .before .args .m) false (ne-eqb _ _ (λ e. c .match .rest .1 (c .before .vertical-number .ensures ∙ e)))))

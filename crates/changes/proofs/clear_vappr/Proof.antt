@@ -14,5 +14,5 @@ clear-vappr-spec =
     (λ c κs. search needs)
     (λ c κs. search needs)
     (λ c κs. search needs)
-    (λ c. rw (c .with-vertical .ensures, c .before .before .with-vappr-armed .ensures) (vappr-cleared (c .before .before .before .before .args .m) true (eq-eqb _ _ (sym (c .before .before .before .vertical-number .ensures) ∙ c .before .if1 .taken))))
-    (λ c. rw (c .before .with-vappr-armed .ensures) (vappr-cleared (c .before .before .before .args .m) false (ne-eqb _ _ (λ e. c .if1 .left (c .before .before .vertical-number .ensures ∙ e))))))
+    (λ c. rw (c .with-vertical .ensures, c .before .before .with-vappr-armed .ensures) (vappr-cleared (c .before .before .before .before .args .m) true (eq-eqb _ _ (sym (c .before .before .before .vertical-number .ensures) ∙ c .before .match .keys1))))
+    (λ c. rw (c .before .with-vappr-armed .ensures) (vappr-cleared (c .before .before .before .args .m) false (ne-eqb _ _ (λ e. c .match .rest .1 (c .before .before .vertical-number .ensures ∙ e))))))

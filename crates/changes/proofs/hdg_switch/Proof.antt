@@ -14,5 +14,5 @@ hdg-switch-spec =
     (λ c κs. search needs)
     (λ c κs. search needs)
     (λ c κs. search needs)
-    (λ c. rw (c .with-lateral .ensures) (hdg-switched (c .before .before .before .args .m) true (eq-eqb _ _ (sym (c .before .before .lateral-number .ensures) ∙ c .before .if1 .taken))))
-    (λ c. rw (c .to-lateral .ensures) (hdg-switched (c .before .before .before .args .m) false (ne-eqb _ _ (λ e. c .before .if1 .left (c .before .before .lateral-number .ensures ∙ e))))))
+    (λ c. rw (c .with-lateral .ensures) (hdg-switched (c .before .before .before .args .m) true (eq-eqb _ _ (sym (c .before .before .lateral-number .ensures) ∙ c .before .match .keys1))))
+    (λ c. rw (c .to-lateral .ensures) (hdg-switched (c .before .before .before .args .m) false (ne-eqb _ _ (λ e. c .before .match .rest .1 (c .before .before .lateral-number .ensures ∙ e))))))

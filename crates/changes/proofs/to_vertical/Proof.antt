@@ -13,5 +13,5 @@ to-vertical-spec =
     (λ c κs. search needs)
     (λ c κs. search needs)
     (λ c κs. search needs)
-    (λ c. rw (eq-eqb _ _ (sym (c .before .before .before .vertical-number .ensures) ∙ c .before .before .if1 .taken), c .with-vertical .ensures, c .before .with-vappr-armed .ensures))
-    (λ c. rw (ne-eqb _ _ (λ e. c .before .if1 .left (c .before .before .vertical-number .ensures ∙ e)), c .with-vertical2 .ensures)))
+    (λ c. rw (eq-eqb _ _ (sym (c .before .before .before .vertical-number .ensures) ∙ c .before .before .match .keys1), c .with-vertical .ensures, c .before .with-vappr-armed .ensures))
+    (λ c. rw (ne-eqb _ _ (λ e. c .before .match .rest .1 (c .before .before .vertical-number .ensures ∙ e)), c .with-vertical2 .ensures)))
