@@ -10,11 +10,14 @@ ghost use mathlib.Core.Path.{_≡_};
 ghost use Prim.Native.Nat.{_≤_};
 ghost use lib.ListN.{length};
 ghost use Rattle.bench.specs.Holds.{powerOn};
-ghost use Rattle.calls.specs.Calls.{eventCall};
+ghost use Rattle.calls.specs.Calls.{eventCall, turnCall, received, readingCall, sendCall, refreshCall};
 ghost use Rattle.console.specs.Acts.{asked, benchAfter};
+ghost use Rattle.console.specs.Damage.{pfDamaged, setDamaged, referenceDamaged};
 use bench::Bench;
+use bench::Reading;
 use calls::answers::Answer;
 use libc::STDIN_FILENO;
+use modes::ModeSet;
 use output::flush;
 use scripts::Command;
 
@@ -66,6 +69,13 @@ fn answered(s: Session, name: &[u8], a: Answer, out: &mut [u8]) -> Session
     with(s, next, waiting)
 }
 
+fn wrong(s: Session, why: u32, out: &mut [u8]) -> Session
+    ensures { λ res. ⌜ res .bench ≡ s .bench ⌝ }
+{
+    let b = s.bench;
+    with(s, b, messages::put_error(out, s.waiting, s.lines, why))
+}
+
 fn event(s: Session, word: u32, out: &mut [u8]) -> Session
     ensures { λ res. ⌜ res .bench ≡ eventCall (s .bench) word .bench ⌝ }
 {
@@ -74,6 +84,34 @@ fn event(s: Session, word: u32, out: &mut [u8]) -> Session
     let next = a.bench;
     let waiting = answers::put_event(out, s.waiting, a.refusal, a.event);
     with(s, next, waiting)
+}
+
+fn send(s: Session, side: u32, out: &mut [u8]) -> Session
+    ensures { λ res. ⌜ res .bench ≡ sendCall (s .bench) side .bench ⌝ }
+{
+    let b = s.bench;
+    answered(s, b"send", calls::send(b, side), out)
+}
+
+fn refresh(s: Session, side: u32, out: &mut [u8]) -> Session
+    ensures { λ res. ⌜ res .bench ≡ refreshCall (s .bench) side .bench ⌝ }
+{
+    let b = s.bench;
+    answered(s, b"refresh", calls::refresh(b, side), out)
+}
+
+fn turn(s: Session, knob: u32, count: u8, out: &mut [u8]) -> Session
+    ensures { λ res. ⌜ res .bench ≡ turnCall (s .bench) knob count .bench ⌝ }
+{
+    let b = s.bench;
+    answered(s, b"turn", calls::turn(b, knob, count), out)
+}
+
+fn reading(s: Session, r: Reading, out: &mut [u8]) -> Session
+    ensures { λ res. ⌜ res .bench ≡ readingCall (s .bench) r .bench ⌝ }
+{
+    let b = s.bench;
+    answered(s, b"reading", calls::reading(b, r), out)
 }
 
 fn display(s: Session, side: u32, out: &mut [u8]) -> Session
@@ -91,8 +129,25 @@ fn pick(s: Session, side: u32, out: &mut [u8]) -> Session
     ensures { λ res. ⌜ res .bench ≡ s .bench ⌝ }
 {
     let b = s.bench;
-    let waiting = answers::put_pick(out, s.waiting, guidance::pick(b, side));
-    with(s, b, waiting)
+    with(
+        s,
+        b,
+        answers::put_pick(out, s.waiting, guidance::pick(b, side)),
+    )
+}
+
+fn write_bench(s: Session, out: &mut [u8]) -> Session
+    ensures { λ res. ⌜ res .bench ≡ s .bench ⌝ }
+{
+    let b = s.bench;
+    with(s, b, answers::put_bench(out, s.waiting, b))
+}
+
+fn draw(s: Session, out: &mut [u8]) -> Session
+    ensures { λ res. ⌜ res .bench ≡ s .bench ⌝ }
+{
+    let b = s.bench;
+    with(s, b, panel::put_panel(out, s.waiting, b))
 }
 
 // A bench that was put in place of the session's.
@@ -102,38 +157,61 @@ fn placed(s: Session, name: &[u8], bench: Bench, out: &mut [u8]) -> Session
     answered(s, name, Answer { refusal: 0, bench }, out)
 }
 
-fn damaged(s: Session, bench: Bench, out: &mut [u8]) -> Session
-    ensures { λ res. ⌜ res .bench ≡ bench ⌝ }
+fn power_on(s: Session, out: &mut [u8]) -> Session
+    ensures { λ res. ⌜ res .bench ≡ powerOn ⌝ }
 {
-    placed(s, b"damage", bench, out)
+    placed(s, b"power-on", bench::power_on(), out)
+}
+
+fn damage_pf(s: Session, n: u32, out: &mut [u8]) -> Session
+    ensures { λ res. ⌜ res .bench ≡ pfDamaged n (s .bench) ⌝ }
+{
+    let b = s.bench;
+    placed(s, b"damage", damage::damage_pf(b, n), out)
+}
+
+fn damage_reading(s: Session, r: Reading, out: &mut [u8]) -> Session
+    ensures { λ res. ⌜ res .bench ≡ received r (s .bench) ⌝ }
+{
+    let b = s.bench;
+    placed(s, b"damage", damage::damage_reading(b, r), out)
+}
+
+fn damage_set(s: Session, part: u32, set: ModeSet, out: &mut [u8]) -> Session
+    ensures { λ res. ⌜ res .bench ≡ setDamaged part set (s .bench) ⌝ }
+{
+    let b = s.bench;
+    placed(s, b"damage", damage::damage_set(b, part, set), out)
+}
+
+fn damage_reference(s: Session, part: u32, n: u32, x: i32, out: &mut [u8]) -> Session
+    ensures { λ res. ⌜ res .bench ≡ referenceDamaged part n x (s .bench) ⌝ }
+{
+    let b = s.bench;
+    placed(s, b"damage", damage::damage_reference(b, part, n, x), out)
 }
 
 // The session after a command.
 fn carry_out(s: Session, c: Command, out: &mut [u8]) -> Session
     ensures { λ res. ⌜ res .bench ≡ benchAfter c (s .bench) ⌝ }
 {
-    let b = s.bench;
     match c {
         Command::Blank => s,
-        Command::Wrong(why) => with(s, b, messages::put_error(out, s.waiting, s.lines, why)),
+        Command::Wrong(why) => wrong(s, why, out),
         Command::Event(word) => event(s, word, out),
-        Command::Send(side) => answered(s, b"send", calls::send(b, side), out),
-        Command::Refresh(side) => answered(s, b"refresh", calls::refresh(b, side), out),
+        Command::Send(side) => send(s, side, out),
+        Command::Refresh(side) => refresh(s, side, out),
         Command::Display(side) => display(s, side, out),
         Command::Pick(side) => pick(s, side, out),
-        Command::Turn(knob, count) => answered(s, b"turn", calls::turn(b, knob, count), out),
-        Command::Reading(r) => answered(s, b"reading", calls::reading(b, r), out),
-        Command::PowerOn => placed(s, b"power-on", bench::power_on(), out),
-        Command::Bench => with(s, b, answers::put_bench(out, s.waiting, b)),
-        Command::Panel => with(s, b, panel::put_panel(out, s.waiting, b)),
-        Command::DamagePf(n) => damaged(s, damage::damage_pf(b, n), out),
-        Command::DamageReading(r) => damaged(s, damage::damage_reading(b, r), out),
-        Command::DamageSet(part, set) => damaged(s, damage::damage_set(b, part, set), out),
-        Command::DamageReference(part, n, x) => damaged(
-            s,
-            damage::damage_reference(b, part, n, x),
-            out,
-        ),
+        Command::Turn(knob, count) => turn(s, knob, count, out),
+        Command::Reading(r) => reading(s, r, out),
+        Command::PowerOn => power_on(s, out),
+        Command::Bench => write_bench(s, out),
+        Command::Panel => draw(s, out),
+        Command::DamagePf(n) => damage_pf(s, n, out),
+        Command::DamageReading(r) => damage_reading(s, r, out),
+        Command::DamageSet(part, set) => damage_set(s, part, set, out),
+        Command::DamageReference(part, n, x) => damage_reference(s, part, n, x, out),
     }
 }
 

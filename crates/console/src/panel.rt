@@ -9,14 +9,29 @@ use bench::Bench;
 use bench::References;
 use calls::answers::Display;
 
-// A text and as many spaces as fill the width.
-fn put_padded(out: &mut [u8], waiting: usize, text: &[u8], width: usize) -> usize {
-    let at = put_text(out, waiting, text);
-    if text.len() < width {
-        put_spaces(out, at, width - text.len())
-    } else {
-        at
+// A byte of a label: '_' stands for a space.
+fn shown(byte: u8) -> u8 {
+    if byte == b'_' { b' ' } else { byte }
+}
+
+fn put_label(out: &mut [u8], waiting: usize, label: &[u8]) -> usize {
+    let mut at = waiting;
+    let mut i = 0;
+    while i < label.len() {
+        at = put(out, at, shown(label[i]));
+        i += 1;
     }
+    at
+}
+
+// The label with this number, from 0, of a text of labels, and as many spaces as fill the width.
+fn put_nth(out: &mut [u8], waiting: usize, labels: &[u8], n: usize, width: usize) -> usize {
+    let label = words::word(labels, n);
+    let at = put_label(out, waiting, label);
+    if label.len() < width {
+        return put_spaces(out, at, width - label.len());
+    }
+    at
 }
 
 // One of two texts.
@@ -56,91 +71,49 @@ fn put_right(out: &mut [u8], waiting: usize, x: i32) -> usize {
     put_signed(out, at, x)
 }
 
-fn put_reference(out: &mut [u8], waiting: usize, name: &[u8], x: i32, unit: &[u8]) -> usize {
-    let mut at = put_padded(out, waiting, name, 21);
+// A reference with its unit, by its place in a display.
+fn put_reference(out: &mut [u8], waiting: usize, n: usize, x: i32) -> usize {
+    let names =
+        b"heading preselected_altitude held_altitude vertical_speed indicated_airspeed roll pitch";
+    let units = b"deg ft ft x100_fpm kt deg deg";
+    let mut at = put(out, waiting, b' ');
+    at = put_nth(out, at, names, n, 20);
     at = put_right(out, at, x);
-    put_padded(out, at, unit, 10)
+    at = put(out, at, b' ');
+    put_nth(out, at, units, n, 9)
 }
 
-fn put_references_row(out: &mut [u8], waiting: usize, row: usize, r: References) -> usize {
-    match row {
-        7 => put_reference(out, waiting, b" heading", r.heading, b" deg"),
-        8 => put_reference(
-            out,
-            waiting,
-            b" preselected altitude",
-            r.preselected,
-            b" ft",
-        ),
-        9 => put_reference(out, waiting, b" held altitude", r.held, b" ft"),
-        10 => put_reference(
-            out,
-            waiting,
-            b" vertical speed",
-            r.vertical_speed,
-            b" x100 fpm",
-        ),
-        11 => put_reference(out, waiting, b" indicated airspeed", r.ias, b" kt"),
-        12 => put_reference(out, waiting, b" roll", r.roll, b" deg"),
-        _ => put_reference(out, waiting, b" pitch", r.pitch, b" deg"),
+// The reference at a place in a display.
+fn nth_reference(r: References, n: usize) -> i32 {
+    match n {
+        0 => r.heading,
+        1 => r.preselected,
+        2 => r.held,
+        3 => r.vertical_speed,
+        4 => r.ias,
+        5 => r.roll,
+        _ => r.pitch,
     }
 }
 
-fn put_lateral_mode(out: &mut [u8], waiting: usize, law: u32) -> usize {
-    let at = put_text(out, waiting, b" lateral  ");
-    match law {
-        1 => put_padded(out, at, b"ROLL", 15),
-        2 => put_padded(out, at, b"HDG", 15),
-        3 => put_padded(out, at, b"NAV", 15),
-        4 => put_padded(out, at, b"LAPPR", 15),
-        5 => put_padded(out, at, b"LGA", 15),
-        _ => put_padded(out, at, b"-", 15),
-    }
-}
-
-fn put_vertical_mode(out: &mut [u8], waiting: usize, law: u32) -> usize {
-    let at = put_text(out, waiting, b" vertical ");
-    match law {
-        1 => put_padded(out, at, b"PITCH", 15),
-        2 => put_padded(out, at, b"VS", 15),
-        3 => put_padded(out, at, b"FLC", 15),
-        4 => put_padded(out, at, b"ALT", 15),
-        5 => put_padded(out, at, b"ALTSEL capture", 15),
-        6 => put_padded(out, at, b"ALTSEL track", 15),
-        7 => put_padded(out, at, b"VAPPR", 15),
-        8 => put_padded(out, at, b"VGA", 15),
-        _ => put_padded(out, at, b"-", 15),
-    }
-}
-
-// Armed lateral modes, in 12 columns. No bench from power-on arms both.
-fn put_armed_lateral(out: &mut [u8], waiting: usize, armed: u32) -> usize {
-    match armed % 4 {
-        0 => put_padded(out, waiting, b"-", 12),
-        1 => put_padded(out, waiting, b"NAV", 12),
-        2 => put_padded(out, waiting, b"LAPPR", 12),
-        _ => put_padded(out, waiting, b"NAV LAPPR", 12),
-    }
-}
-
-// Armed vertical modes, in 12 columns.
-fn put_armed_vertical(out: &mut [u8], waiting: usize, armed: u32) -> usize {
-    match armed / 4 {
-        0 => put_padded(out, waiting, b"-", 12),
-        1 => put_padded(out, waiting, b"ALTSEL", 12),
-        2 => put_padded(out, waiting, b"VAPPR", 12),
-        _ => put_padded(out, waiting, b"ALTSEL VAPPR", 12),
-    }
-}
-
+// Engaged and armed modes of an axis.
 fn put_lateral(out: &mut [u8], waiting: usize, law: u32, armed: u32) -> usize {
-    let at = put_lateral_mode(out, waiting, law);
-    put_armed_lateral(out, at, armed)
+    let mut at = put_text(out, waiting, b" lateral  ");
+    at = put_nth(out, at, b"- ROLL HDG NAV LAPPR LGA", law as usize, 15);
+    put_nth(out, at, b"- NAV LAPPR NAV_LAPPR", (armed % 4) as usize, 12)
 }
 
 fn put_vertical(out: &mut [u8], waiting: usize, law: u32, armed: u32) -> usize {
-    let at = put_vertical_mode(out, waiting, law);
-    put_armed_vertical(out, at, armed)
+    let laws = b"- PITCH VS FLC ALT ALTSEL_capture ALTSEL_track VAPPR VGA";
+    let mut at = put_text(out, waiting, b" vertical ");
+    at = put_nth(out, at, laws, law as usize, 15);
+    put_nth(
+        out,
+        at,
+        b"- ALTSEL VAPPR ALTSEL_VAPPR",
+        (armed / 4) as usize,
+        12,
+    )
 }
 
 // Lit lamps stand in brackets and capitals.
@@ -186,17 +159,24 @@ fn put_role(out: &mut [u8], waiting: usize, refusal: u32, flying: bool) -> usize
     put_text(out, waiting, b"DISPLAY REFUSED  ")
 }
 
-// What stands in a row of a panel, in 37 columns.
-fn put_inside(out: &mut [u8], waiting: usize, row: usize, d: Display) -> usize {
-    let references = d.references;
+// Switches, lamps and modes: the first five rows under the title, in 37 columns.
+fn put_modes(out: &mut [u8], waiting: usize, row: usize, d: Display) -> usize {
     match row {
-        2 => put_switches(out, waiting, d.fd, has(d.lamps, 64)),
-        3 => put_lamps(out, waiting, d.lamps),
-        4 => put_text(out, waiting, b"          engaged        armed       "),
-        5 => put_lateral(out, waiting, d.lateral, d.armed),
-        6 => put_vertical(out, waiting, d.vertical, d.armed),
-        _ => put_references_row(out, waiting, row, references),
+        0 => put_switches(out, waiting, d.fd, has(d.lamps, 64)),
+        1 => put_lamps(out, waiting, d.lamps),
+        2 => put_text(out, waiting, b"          engaged        armed       "),
+        3 => put_lateral(out, waiting, d.lateral, d.armed),
+        _ => put_vertical(out, waiting, d.vertical, d.armed),
     }
+}
+
+// What stands in a row: the references follow on the modes.
+fn put_inside(out: &mut [u8], waiting: usize, row: usize, d: Display) -> usize {
+    if row < 5 {
+        return put_modes(out, waiting, row, d);
+    }
+    let references = d.references;
+    put_reference(out, waiting, row - 5, nth_reference(references, row - 5))
 }
 
 fn put_row(out: &mut [u8], waiting: usize, row: usize, d: Display) -> usize {
@@ -205,11 +185,11 @@ fn put_row(out: &mut [u8], waiting: usize, row: usize, d: Display) -> usize {
     put(out, at, b'|')
 }
 
-// The rows under the titles, of both panels.
+// The twelve rows under the titles, of both panels.
 fn put_rows(out: &mut [u8], waiting: usize, left: Display, right: Display) -> usize {
     let mut at = waiting;
-    let mut row = 2;
-    while row < 14 {
+    let mut row = 0;
+    while row < 12 {
         at = put_row(out, at, row, left);
         at = put_text(out, at, b"  ");
         at = put_row(out, at, row, right);

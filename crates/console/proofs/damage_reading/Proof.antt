@@ -1,0 +1,10 @@
+-- `console::damage_reading` meets its contract. Assumes nothing.
+use borrow.Author.Needs.{needs}
+use mathlib.Core.Path.{_∙_}
+use Rattle.console.proofs.damage_reading.Statement.{statement}
+use Rattle.console.proofs.damage_reading.Tie as tie
+
+pub damage-reading-spec : {M : Type 1} → statement M
+damage-reading-spec =
+    tie.close
+    (tie.spec (λ c. search needs) (λ c κs. search needs) (λ c κs. search needs) (λ c. search needs) (λ c. c .before .before .placed .ensures ∙ c .before .before .before .before .damage-reading .ensures))
