@@ -1,2 +1,1 @@
 pub mod Lamps
-pub mod Lowest

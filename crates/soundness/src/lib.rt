@@ -1,1 +1,2 @@
-// Theorems only, in proofs/: the bench of power-on is sound, and every call keeps a sound bench sound.
+// Theorems only, in proofs/: the bench of power-on is sound, every call keeps a sound bench sound, and the
+// event acted on is the lowest bit of its word.
