@@ -1,7 +1,6 @@
 -- Sound benches stay sound: the bench of power-on is sound, and of a sound bench every call, accepted or refused, makes a sound one.
 -- The laws that a side shows are within 0 to 5 and 0 to 8, and 0 exactly where its set is Off. Document 01, 'Who can be turned away' and 'Display'. Assumes nothing.
 use mathlib.Core.Path.{_≡_, refl, ap}
-use mathlib.Core.Logic.{_↔_}
 use mathlib.Core.Bool.{true, cond, _&&_}
 use Prim.Native.Nat.{ℕ, _≤_}
 use native.Mathlib.Omega.{arith}
@@ -24,6 +23,7 @@ use Rattle.steps.specs.Steps.{threeSteps}
 use Rattle.knobs.specs.Knobs.{turned}
 use Rattle.calls.specs.Calls.{refused, sideRefusal, knobRefusal, wordRefusal, acted, eventCall, turnCall, received, readingCall, sendCall, refreshCall, displayCall}
 use Rattle.calls.specs.Sends.{sent, refreshed}
+use Rattle.soundness.specs.Kept.{KeepsSound, LawsInRange}
 use Rattle.soundness.proofs.Kept.Parts.{by-cond, SoundIn, parts, whole}
 use Rattle.soundness.proofs.Kept.Changes.{three-sound, turned-sound, received-sound, sent-sound, refreshed-sound}
 pub mod Parts
@@ -68,6 +68,17 @@ pub display-sound : (b : Bench) (s : ℕ) → sound b ≡ true → sound (displa
 unfolding displayCall
 display-sound b s h = h
 
+pub keeps-sound : KeepsSound
+keeps-sound = record {
+  power-on = power-on-sound;
+  event = event-sound;
+  turn = turn-sound;
+  reading = reading-sound;
+  send = send-sound;
+  refresh = refresh-sound;
+  display = display-sound;
+}
+
 -- ---- the laws
 
 -- a number of each value of a small type, computed to be from 1 to high at all of them
@@ -84,13 +95,7 @@ pub record OnLaws (m : Modes) : Type 0 where
 pub on-laws : (m : Modes) → OnLaws m
 on-laws m = record { lateral = number-in laterals lateralNumber 5 tt (m .lateral); vertical = number-in verticals verticalNumber 8 tt (m .vertical) }
 
--- a set's laws are within 0 to 5 and 0 to 8, and 0 exactly if it is Off
-pub record LawsInRange (s : ModeSet) : Type 0 where
-  pub lateral : lateralLaw s ≤ 5
-  pub vertical : verticalLaw s ≤ 8
-  pub lateral-off : (lateralLaw s ≡ 0) ↔ (s ≡ ModeSet.Off)
-  pub vertical-off : (verticalLaw s ≡ 0) ↔ (s ≡ ModeSet.Off)
-
+-- the laws of any set
 pub laws-in-range : (s : ModeSet) → LawsInRange s
 laws-in-range ModeSet.Off = record { lateral = omega arith; vertical = omega arith; lateral-off = (λ e. refl, λ e. refl); vertical-off = (λ e. refl, λ e. refl) }
 laws-in-range (ModeSet.On m) =

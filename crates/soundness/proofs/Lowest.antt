@@ -9,11 +9,7 @@ use lib.Pow.{shr-lt}
 use native.Mathlib.Numerals.{add-one, unary-clauses}
 use lib.Dec.{leb}
 use lib.Count.{trailingZeros, under}
-
--- bit j of w, lowest first: w halved j times, then its last digit
-unfoldable pub bit : ℕ → ℕ → ℕ
-bit zero w = w % 2
-bit (suc j) w = bit j (w / 2)
+use Rattle.soundness.specs.Lowest.{bit, IsLowest, NamesLowest}
 
 -- below the lowest set bit every bit is 0
 below-under : (d t w k j : ℕ) → w % 2 ≡ d → j < under d t → ((i : ℕ) → i < t → bit i (w / 2) ≡ 0) → bit j w ≡ 0
@@ -52,11 +48,6 @@ unfolding bit
 high-clear j zero w h = let e : w ≡ 0 = omega arith in rw e (simp unary-clauses (clear-zero j))
 high-clear j (suc k) w h = simp unary-clauses (high-clear j k (w / 2) (half-lt k w h))
 
--- n is the number of the lowest set bit of w
-pub record IsLowest (n w : ℕ) : Type 0 where
-  pub set : bit n w ≡ 1
-  pub below-clear : (j : ℕ) → j < n → bit j w ≡ 0
-
 pub names-lowest : (w : ℕ) → trailingZeros 32 w < 32 → IsLowest (trailingZeros 32 w) w
 names-lowest w h = record { set = set-bit 32 w h; below-clear = below 32 w }
 
@@ -78,3 +69,6 @@ names-event w h l = go (trailingZeros 32 w) (set-bit 32 w l)
         decide : (t : Bool) → leb 20 n ≡ t → n < 20
         decide true f = absurd (past n e (leb-true 20 n f))
         decide false f = leb-false 20 n f
+
+pub names : (w : ℕ) → NamesLowest w
+names w = record { lowest = names-lowest w; none = names-none w; event = names-event w }
