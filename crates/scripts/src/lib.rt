@@ -36,9 +36,7 @@ pub enum Command {
     DamageReference(u32, u32, i32),
 }
 
-// What can be wrong with a line; `messages` has a text for each.
-pub const NOTHING: u32 = 0;
-
+// What can be wrong with a line; the console has a text for each.
 pub const TOO_LONG: u32 = 1;
 
 pub const NO_COMMAND: u32 = 2;

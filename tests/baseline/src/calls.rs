@@ -182,14 +182,24 @@ pub fn reading(b: &mut Bench, r: Reading) -> u32 {
     }
 }
 
+/// The refusal of a call that names a side: 1, else 2, else none.
+#[inline]
+fn refusal_of_side(b: &Bench, side: u32) -> u32 {
+    if !b.is_sound() {
+        1
+    } else if side > 1 {
+        2
+    } else {
+        0
+    }
+}
+
 /// A side's FD, set and references go to the other side's inbox. Answers the refusal.
 #[inline]
 pub fn send(b: &mut Bench, side: u32) -> u32 {
-    if !b.is_sound() {
-        return 1;
-    }
-    if side > 1 {
-        return 2;
+    let refusal = refusal_of_side(b, side);
+    if refusal != 0 {
+        return refusal;
     }
     let (from, to) = (side as usize, side as usize ^ 3);
     b.references[to] = b.references[from];
@@ -202,11 +212,9 @@ pub fn send(b: &mut Bench, side: u32) -> u32 {
 /// refusal.
 #[inline]
 pub fn refresh(b: &mut Bench, side: u32) -> u32 {
-    if !b.is_sound() {
-        return 1;
-    }
-    if side > 1 {
-        return 2;
+    let refusal = refusal_of_side(b, side);
+    if refusal != 0 {
+        return refusal;
     }
     let at = side as usize;
     if side == b.pf {
@@ -222,11 +230,9 @@ pub fn refresh(b: &mut Bench, side: u32) -> u32 {
 /// What a side shows, with the refusal.
 #[inline]
 pub fn display(b: &Bench, side: u32) -> (u32, Display) {
-    if !b.is_sound() {
-        return (1, BLANK);
-    }
-    if side > 1 {
-        return (2, BLANK);
+    let refusal = refusal_of_side(b, side);
+    if refusal != 0 {
+        return (refusal, BLANK);
     }
     let at = side as usize;
     let shown = SHOWN[b.sets[at] as usize];
