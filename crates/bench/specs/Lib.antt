@@ -1,4 +1,7 @@
+pub mod Parts
+pub mod Sides
+pub mod Holds
 pub mod Ranges
 pub mod Readings
-pub mod Holds
 pub mod Sound
+pub mod Laws

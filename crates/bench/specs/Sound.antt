@@ -1,30 +1,37 @@
 -- Sound benches: those that refusal 1 does not name. Document 01, 'Who can be turned away'.
 use mathlib.Core.Bool.{Bool, _&&_}
-use lib.Dec.{leb}
+use Prim.Native.Nat.{ℕ}
+use lib.Dec.{eqb, leb}
 use Rattle.modes.specs.Sets.{coherentSet}
 use Rattle.bench.specs.declared.References.{References}
 use Rattle.bench.specs.declared.Channel.{Channel}
 use Rattle.bench.specs.declared.Readings.{Readings}
 use Rattle.bench.specs.declared.Reading.{Reading}
 use Rattle.bench.specs.declared.Bench.{Bench}
-use Rattle.bench.specs.Ranges.{within, headings, altitudes, verticalSpeeds, speeds, rolls, pitches}
-use Rattle.bench.specs.Readings.{accepted}
+use Rattle.bench.specs.Parts.{reference, box}
+use Rattle.bench.specs.Ranges.{within, referenceRange}
+use Rattle.bench.specs.Readings.{refusalOf}
+
+-- the reference at a place is within its range
+abbrev pub inRange : ℕ → References → Bool
+inRange n r = within (referenceRange n) (reference n r)
 
 unfoldable pub referencesSound : References → Bool
-referencesSound r =
-    within headings (r .heading) && within altitudes (r .preselected) && within altitudes (r .held) && within verticalSpeeds (r .«vertical_speed»)
-    && within speeds (r .ias) && within rolls (r .roll) && within pitches (r .pitch)
+referencesSound r = inRange 0 r && inRange 1 r && inRange 2 r && inRange 3 r && inRange 4 r && inRange 5 r && inRange 6 r
 
 unfoldable pub channelSound : Channel → Bool
 channelSound c = coherentSet (c .set) && referencesSound (c .references)
 
--- no reading that 5 or 6 would turn away
+-- neither 5 nor 6 would turn the reading away
+abbrev pub valid : Reading → Bool
+valid r = eqb (refusalOf r) 0
+
 unfoldable pub readingsSound : Readings → Bool
 readingsSound w =
-    accepted (Reading.Altitude (w .altitude)) && accepted (Reading.Airspeed (w .airspeed)) && accepted (Reading.VerticalSpeed (w .«vertical_speed»))
-    && accepted (Reading.Roll (w .roll)) && accepted (Reading.Pitch (w .pitch)) && accepted (Reading.Heading (w .heading))
+    valid (Reading.Altitude (w .altitude)) && valid (Reading.Airspeed (w .airspeed)) && valid (Reading.VerticalSpeed (w .«vertical_speed»))
+    && valid (Reading.Roll (w .roll)) && valid (Reading.Pitch (w .pitch)) && valid (Reading.Heading (w .heading))
 
 unfoldable pub sound : Bench → Bool
 sound b =
-    leb (b .shared .pf) 1 && channelSound (b .left) && channelSound (b .right) && channelSound (b .«left_inbox») && channelSound (b .«right_inbox»)
+    leb (b .shared .pf) 1 && channelSound (box 0 b) && channelSound (box 1 b) && channelSound (box 2 b) && channelSound (box 3 b)
     && readingsSound (b .readings)

@@ -1,17 +1,37 @@
-// The bench value: what it holds, and when it is sound.
-ghost use mathlib.Core.Path.{_≡_};
-ghost use lib.IntN.{pos, negsuc};
-ghost use Rattle.rounding.specs.Whole.{wholeOf};
-ghost use Rattle.modes.specs.Sets.{coherentSet};
-ghost use Rattle.bench.specs.Ranges.{range, within};
-ghost use Rattle.bench.specs.Readings.{judged, refusalOf, wholeIn};
-ghost use Rattle.bench.specs.Holds.{powerOn, startChannel, side, inbox, withSide, withInbox};
-ghost use Rattle.bench.specs.Sound.{referencesSound, channelSound, readingsSound, sound};
-use modes::ModeSet;
-use modes::Shared;
-use rounding::Whole;
+// The bench value: what it holds at power-on, which sides act, and when it is sound. `parts` replaces
+// and reads its parts, `ranges` has the ranges of references and readings, `feed` the readings.
+pub mod feed;
+pub mod parts;
+pub mod ranges;
 
-// The targets that modes steer to: degrees, feet, hundreds of feet a minute, knots.
+use feed::reading_refusal;
+use modes::ModeSet;
+use parts::HEADING;
+use parts::HELD;
+use parts::IAS;
+use parts::PITCH;
+use parts::PRESELECTED;
+use parts::ROLL;
+use parts::VERTICAL_SPEED;
+use parts::box_of;
+use parts::with_reference;
+use parts::zero_references;
+use ranges::reference_in_range;
+ghost use mathlib.Core.Path.{_≡_};
+ghost use Rattle.bench.specs.Parts.{box};
+ghost use Rattle.bench.specs.Holds.{powerOn, startChannel};
+ghost use Rattle.bench.specs.Sides.{acts, otherSide};
+ghost use Rattle.bench.specs.Sound.{referencesSound, channelSound, valid, readingsSound, sound};
+
+// What the two sides share and an event can change: the PF side, AP and the overspeed flag.
+pub struct Shared {
+    pub pf: u32,
+    pub ap: bool,
+    pub overspeed: bool,
+}
+
+// The targets that modes steer to: degrees, feet, hundreds of feet a minute, knots. Their places are
+// 0 to 6 in this order.
 pub struct References {
     pub heading: i32,
     pub preselected: i32,
@@ -29,7 +49,7 @@ pub struct Channel {
     pub references: References,
 }
 
-// The last counts of the four knobs.
+// The last counts of the four knobs, numbered 0 to 3 in this order.
 pub struct Counts {
     pub wheel: u8,
     pub altitude: u8,
@@ -57,7 +77,7 @@ pub enum Reading {
     Heading(f64),
 }
 
-// A bench. It can hold damage: `is_sound` tells.
+// A bench. It can hold damage: `is_sound` tells. Its four boxes are numbered 0 to 3 in this order.
 pub struct Bench {
     pub shared: Shared,
     pub counts: Counts,
@@ -71,18 +91,11 @@ pub struct Bench {
 fn start_channel() -> Channel
     ensures { λ res. ⌜ res ≡ startChannel ⌝ }
 {
+    let references = with_reference(zero_references(), IAS, 90);
     Channel {
         fd: false,
         set: ModeSet::Off,
-        references: References {
-            heading: 0,
-            preselected: 0,
-            held: 0,
-            vertical_speed: 0,
-            ias: 90,
-            roll: 0,
-            pitch: 0,
-        },
+        references,
     }
 }
 
@@ -90,10 +103,7 @@ fn start_channel() -> Channel
 pub fn power_on() -> Bench
     ensures { λ res. ⌜ res ≡ powerOn ⌝ }
 {
-    let left = start_channel();
-    let right = start_channel();
-    let left_inbox = start_channel();
-    let right_inbox = start_channel();
+    let start = start_channel();
     Bench {
         shared: Shared {
             pf: 0,
@@ -114,134 +124,48 @@ pub fn power_on() -> Bench
             pitch: 0.0,
             heading: 0.0,
         },
-        left,
-        right,
-        left_inbox,
-        right_inbox,
+        left: start,
+        right: start,
+        left_inbox: start,
+        right_inbox: start,
     }
 }
 
-// What a side holds: 0 is left, and any other number right.
-pub fn side_of(b: Bench, number: u32) -> Channel
-    ensures { λ res. ⌜ res ≡ side b number ⌝ }
+// The other side of two.
+pub fn other_side(side: u32) -> u32
+    ensures { λ res. ⌜ res ≡ otherSide side ⌝ }
 {
-    let left = b.left;
-    let right = b.right;
-    match number {
-        0 => left,
-        _ => right,
+    match side {
+        0 => 1,
+        _ => 0,
     }
 }
 
-// What a side's inbox holds.
-pub fn inbox_of(b: Bench, number: u32) -> Channel
-    ensures { λ res. ⌜ res ≡ inbox b number ⌝ }
+// Whether a side acts in a call.
+pub fn side_acts(b: Bench, side: u32) -> bool
+    ensures { λ res. ⌜ res ≡ acts b side ⌝ }
 {
-    let left = b.left_inbox;
-    let right = b.right_inbox;
-    match number {
-        0 => left,
-        _ => right,
-    }
-}
-
-// The bench with another channel on a side.
-pub fn with_side(b: Bench, number: u32, c: Channel) -> Bench
-    ensures { λ res. ⌜ res ≡ withSide number c b ⌝ }
-{
-    let mut next = b;
-    match number {
-        0 => {
-            next.left = c;
-        }
-        _ => {
-            next.right = c;
-        }
-    }
-    next
-}
-
-// The bench with another copy in a side's inbox.
-pub fn with_inbox(b: Bench, number: u32, c: Channel) -> Bench
-    ensures { λ res. ⌜ res ≡ withInbox number c b ⌝ }
-{
-    let mut next = b;
-    match number {
-        0 => {
-            next.left_inbox = c;
-        }
-        _ => {
-            next.right_inbox = c;
-        }
-    }
-    next
-}
-
-// Whether a number lies within a range, its ends included.
-pub fn between(low: i32, high: i32, x: i32) -> bool
-    ensures { λ res. ⌜ res ≡ within (range low high) x ⌝ }
-{
-    (low <= x) & (x <= high)
-}
-
-// The refusal of a float with a range of whole values: 5 where it is no number, 6 where it is out of
-// range, else 0.
-fn judge(low: i32, high: i32, x: f64) -> u32
-    ensures { λ res. ⌜ res ≡ judged (range low high) (wholeOf x) ⌝ }
-{
-    let whole = rounding::whole_value(x);
-    match whole {
-        Whole::NotFinite => 5,
-        Whole::Beyond => 6,
-        Whole::Value(v) => {
-            let inside = between(low, high, v);
-            if inside { 0 } else { 6 }
-        }
-    }
-}
-
-// The refusal of a reading: 0, 5 or 6.
-pub fn reading_refusal(r: Reading) -> u32
-    ensures { λ res. ⌜ res ≡ refusalOf r ⌝ }
-{
-    match r {
-        Reading::Altitude(x) => judge(-8000, 56000, x),
-        Reading::Airspeed(x) => judge(0, 600, x),
-        Reading::VerticalSpeed(x) => judge(-300, 300, x),
-        Reading::Roll(x) => judge(-180, 179, x),
-        Reading::Pitch(x) => judge(-90, 89, x),
-        Reading::Heading(x) => judge(0, 359, x),
-    }
-}
-
-// The whole value of a stored reading. A sound bench holds none that has no whole value.
-pub fn whole_reading(x: f64) -> i32
-    ensures { λ res. ⌜ res ≡ wholeIn (wholeOf x) ⌝ }
-{
-    let whole = rounding::whole_value(x);
-    match whole {
-        Whole::NotFinite => 0,
-        Whole::Beyond => 0,
-        Whole::Value(v) => v,
-    }
+    let shared = b.shared;
+    side == shared.pf
 }
 
 fn references_sound(r: References) -> bool
     ensures { λ res. ⌜ res ≡ referencesSound r ⌝ }
 {
-    let heading = between(0, 359, r.heading);
-    let preselected = between(-8000, 56000, r.preselected);
-    let held = between(-8000, 56000, r.held);
-    let vertical_speed = between(-50, 50, r.vertical_speed);
-    let ias = between(60, 400, r.ias);
-    let roll = between(-27, 27, r.roll);
-    let pitch = between(-20, 20, r.pitch);
+    let heading = reference_in_range(r, HEADING);
+    let preselected = reference_in_range(r, PRESELECTED);
+    let held = reference_in_range(r, HELD);
+    let vertical_speed = reference_in_range(r, VERTICAL_SPEED);
+    let ias = reference_in_range(r, IAS);
+    let roll = reference_in_range(r, ROLL);
+    let pitch = reference_in_range(r, PITCH);
     heading & preselected & held & vertical_speed & ias & roll & pitch
 }
 
-fn channel_sound(c: Channel) -> bool
-    ensures { λ res. ⌜ res ≡ channelSound c ⌝ }
+fn box_sound(b: Bench, number: u32) -> bool
+    ensures { λ res. ⌜ res ≡ channelSound (box number b) ⌝ }
 {
+    let c = box_of(b, number);
     let set = c.set;
     let references = c.references;
     let coherent = modes::sets::set_is_coherent(set);
@@ -249,21 +173,22 @@ fn channel_sound(c: Channel) -> bool
     coherent & in_range
 }
 
+fn is_valid(r: Reading) -> bool
+    ensures { λ res. ⌜ res ≡ valid r ⌝ }
+{
+    reading_refusal(r) == 0
+}
+
 fn readings_sound(w: Readings) -> bool
     ensures { λ res. ⌜ res ≡ readingsSound w ⌝ }
 {
-    let altitude = reading_refusal(Reading::Altitude(w.altitude));
-    let airspeed = reading_refusal(Reading::Airspeed(w.airspeed));
-    let vertical_speed = reading_refusal(Reading::VerticalSpeed(w.vertical_speed));
-    let roll = reading_refusal(Reading::Roll(w.roll));
-    let pitch = reading_refusal(Reading::Pitch(w.pitch));
-    let heading = reading_refusal(Reading::Heading(w.heading));
-    (altitude == 0)
-        & (airspeed == 0)
-        & (vertical_speed == 0)
-        & (roll == 0)
-        & (pitch == 0)
-        & (heading == 0)
+    let altitude = is_valid(Reading::Altitude(w.altitude));
+    let airspeed = is_valid(Reading::Airspeed(w.airspeed));
+    let vertical_speed = is_valid(Reading::VerticalSpeed(w.vertical_speed));
+    let roll = is_valid(Reading::Roll(w.roll));
+    let pitch = is_valid(Reading::Pitch(w.pitch));
+    let heading = is_valid(Reading::Heading(w.heading));
+    altitude & airspeed & vertical_speed & roll & pitch & heading
 }
 
 // Whether no condition of refusal 1 holds.
@@ -272,14 +197,10 @@ pub fn is_sound(b: Bench) -> bool
 {
     let shared = b.shared;
     let readings = b.readings;
-    let left = b.left;
-    let right = b.right;
-    let left_inbox = b.left_inbox;
-    let right_inbox = b.right_inbox;
-    let left_sound = channel_sound(left);
-    let right_sound = channel_sound(right);
-    let left_inbox_sound = channel_sound(left_inbox);
-    let right_inbox_sound = channel_sound(right_inbox);
-    let feed_sound = readings_sound(readings);
-    (shared.pf <= 1) & left_sound & right_sound & left_inbox_sound & right_inbox_sound & feed_sound
+    let left = box_sound(b, 0);
+    let right = box_sound(b, 1);
+    let left_inbox = box_sound(b, 2);
+    let right_inbox = box_sound(b, 3);
+    let feed = readings_sound(readings);
+    (shared.pf <= 1) & left & right & left_inbox & right_inbox & feed
 }

@@ -1,1 +1,2 @@
 pub mod Lamps
+pub mod Answered

@@ -1,5 +1,5 @@
--- The calls: which are turned away, in what order, and what the others do. Document 01, 'Event words', 'Sends, refreshes, knobs', 'Readings', 'Display' and
--- 'Who can be turned away'. A refused call hands the bench back as it came.
+-- The calls as data: which are turned away, in what order, what the others do, and what each answers. Document 01, 'Event words', 'Sends, refreshes, knobs', 'Readings',
+-- 'Display' and 'Who can be turned away'.
 use mathlib.Core.Bool.{cond}
 use Prim.Native.Nat.{ℕ}
 use lib.Dec.{eqb, leb}
@@ -7,21 +7,31 @@ use lib.Count.{trailingZeros}
 use Rattle.modes.specs.Events.{eventAt}
 use Rattle.bench.specs.declared.Reading.{Reading}
 use Rattle.bench.specs.declared.Bench.{Bench}
+use Rattle.bench.specs.Parts.{withReadings}
 use Rattle.bench.specs.Readings.{refusalOf, stored}
 use Rattle.bench.specs.Sound.{sound}
 use Rattle.steps.specs.Steps.{threeSteps}
+use Rattle.knobs.specs.Knobs.{turned}
 use Rattle.calls.specs.declared.answers.Answer.{Answer}
 use Rattle.calls.specs.declared.answers.EventAnswer.{EventAnswer}
+use Rattle.calls.specs.declared.answers.Display.{Display}
 use Rattle.calls.specs.declared.answers.DisplayAnswer.{DisplayAnswer}
-use Rattle.knobs.specs.Knobs.{turned}
 use Rattle.calls.specs.Sends.{sent, refreshed}
 use Rattle.calls.specs.Displays.{shown, blank}
 
--- ---- refusals: 1 is tried first; 0 is accepted
+-- a call: its kind and its arguments other than the bench
+pub data Call : Type 0 where
+  -- an event word
+  event : ℕ → Call
+  -- a knob and its new count
+  turn : ℕ → ℕ → Call
+  reading : Reading → Call
+  -- a side
+  send : ℕ → Call
+  refresh : ℕ → Call
+  display : ℕ → Call
 
--- 1: the bench is unsound; then what the call itself is turned away for
-abbrev pub refused : Bench → ℕ → ℕ
-refused b n = cond (sound b) n 1
+-- ---- refusals
 
 -- 2: side above 1
 abbrev pub sideRefusal : ℕ → ℕ
@@ -35,56 +45,77 @@ knobRefusal knob = cond (leb knob 3) 0 3
 abbrev pub wordRefusal : ℕ → ℕ
 wordRefusal word = cond (leb 1048576 word) 4 0
 
--- an accepted call answers 0 and its bench, and a refused one its number and the bench as it came
-abbrev pub answered : ℕ → Bench → Bench → Answer
-answered refusal b after = record { refusal = refusal; bench = cond (eqb refusal 0) after b }
+-- the refusal, 2 to 6, that a call's own arguments give it, and 0 if none does
+abbrev pub ownRefusal : Call → ℕ
+ownRefusal (event word) = wordRefusal word
+ownRefusal (turn knob n) = knobRefusal knob
+ownRefusal (reading r) = refusalOf r
+ownRefusal (send s) = sideRefusal s
+ownRefusal (refresh s) = sideRefusal s
+ownRefusal (display s) = sideRefusal s
 
--- ---- event: of the bits set, the lowest number is acted on and the answer names it; 32 means that none was set and nothing changed, or that the call was refused
+-- 1, an unsound bench, is tried first
+unfoldable pub refusal : Bench → Call → ℕ
+refusal b c = cond (sound b) (ownRefusal c) 1
 
-abbrev pub acted : ℕ → Bench → Bench
+-- ---- what an accepted call does
+
+-- the event of a number is acted on; 32 is none
+unfoldable pub acted : ℕ → Bench → Bench
 acted n b = cond (eqb n 32) b (threeSteps (eventAt n) b)
 
-unfoldable pub eventCall : Bench → ℕ → EventAnswer
-eventCall b word = record {
-  refusal = refused b (wordRefusal word);
-  event = cond (eqb (refused b (wordRefusal word)) 0) (trailingZeros 32 word) 32;
-  bench = cond (eqb (refused b (wordRefusal word)) 0) (acted (trailingZeros 32 word) b) b;
-}
-
--- ---- turn
-
-unfoldable pub turnCall : Bench → ℕ → ℕ → Answer
-turnCall b knob n = answered (refused b (knobRefusal knob)) b (turned knob n b)
-
--- ---- reading: the float is stored
-
+-- the float of an accepted reading is stored
 unfoldable pub received : Reading → Bench → Bench
-received r b = record {
-  shared = b .shared;
-  counts = b .counts;
-  readings = stored r (b .readings);
-  left = b .left;
-  right = b .right;
-  «left_inbox» = b .«left_inbox»;
-  «right_inbox» = b .«right_inbox»;
-}
+received r b = withReadings (stored r (b .readings)) b
 
-unfoldable pub readingCall : Bench → Reading → Answer
-readingCall b r = answered (refused b (refusalOf r)) b (received r b)
+-- a word stands for its lowest set bit's number; a display changes nothing
+abbrev pub done : Call → Bench → Bench
+done (event word) b = acted (trailingZeros 32 word) b
+done (turn knob n) b = turned knob n b
+done (reading r) b = received r b
+done (send s) b = sent s b
+done (refresh s) b = refreshed s b
+done (display s) b = b
 
--- ---- send and refresh
+-- ---- what a call answers
 
-unfoldable pub sendCall : Bench → ℕ → Answer
-sendCall b s = answered (refused b (sideRefusal s)) b (sent s b)
+-- x if the call is accepted, and y if it is refused
+abbrev pub ifAccepted : {A : Type 0} → Bench → Call → A → A → A
+ifAccepted b c x y = cond (eqb (refusal b c) 0) x y
 
-unfoldable pub refreshCall : Bench → ℕ → Answer
-refreshCall b s = answered (refused b (sideRefusal s)) b (refreshed s b)
+-- the bench after a call: a refused one leaves it as it came
+unfoldable pub next : Bench → Call → Bench
+next b c = ifAccepted b c (done c b) b
 
--- ---- display: it leaves the bench as it was, and a refused one shows all zeros
+-- a turn, a reading, a send or a refresh
+unfoldable pub answer : Bench → Call → Answer
+answer b c = record { refusal = refusal b c; bench = next b c }
 
-unfoldable pub displayCall : Bench → ℕ → DisplayAnswer
-displayCall b s = record {
-  refusal = refused b (sideRefusal s);
-  display = cond (eqb (refused b (sideRefusal s)) 0) (shown b s) blank;
-  bench = b;
-}
+-- an event: the number acted on, or 32
+unfoldable pub eventAnswer : Bench → ℕ → EventAnswer
+eventAnswer b word = record { refusal = refusal b (event word); event = ifAccepted b (event word) (trailingZeros 32 word) 32; bench = next b (event word) }
+
+-- a display: what the side shows, or all zeros
+unfoldable pub displayAnswer : Bench → ℕ → DisplayAnswer
+displayAnswer b s = record { refusal = refusal b (display s); display = ifAccepted b (display s) (shown b s) blank; bench = next b (display s) }
+
+-- ---- the same as data
+
+-- what a call answers besides the bench: its refusal, and for an event the event's number, for a display what is shown
+pub data Reply : Type 0 where
+  plain : ℕ → Reply
+  told : ℕ → ℕ → Reply
+  shows : ℕ → Display → Reply
+
+abbrev pub refusalIn : Reply → ℕ
+refusalIn (plain n) = n
+refusalIn (told n e) = n
+refusalIn (shows n d) = n
+
+abbrev pub reply : Bench → Call → Reply
+reply b (event word) = told (eventAnswer b word .refusal) (eventAnswer b word .event)
+reply b (turn knob n) = plain (answer b (turn knob n) .refusal)
+reply b (reading r) = plain (answer b (reading r) .refusal)
+reply b (send s) = plain (answer b (send s) .refusal)
+reply b (refresh s) = plain (answer b (refresh s) .refusal)
+reply b (display s) = shows (displayAnswer b s .refusal) (displayAnswer b s .display)

@@ -2,15 +2,19 @@
 use mathlib.Core.Bool.{false, cond}
 use Prim.Native.Nat.{ℕ, _+_}
 use lib.Dec.{eqb}
-use lib.IntN.{pos}
 use Rattle.modes.specs.Numbers.{lateralLaw, verticalLaw, armedSum, modeLamps, worth}
 use Rattle.bench.specs.declared.Bench.{Bench}
-use Rattle.bench.specs.Holds.{side}
+use Rattle.bench.specs.Parts.{zeroReferences}
+use Rattle.bench.specs.Sides.{side}
 use Rattle.calls.specs.declared.answers.Display.{Display}
 
--- the mode lamps of a side, then AP 64, PF left 128 and PF right 256
+-- PF left 128, PF right 256
+abbrev pub pfLamp : ℕ → ℕ
+pfLamp pf = cond (eqb pf 0) 128 256
+
+-- the mode lamps of a side, then AP 64 and the lamp of PF
 unfoldable pub lamps : Bench → ℕ → ℕ
-lamps b s = modeLamps (side b s .set) + worth (b .shared .ap) 64 + cond (eqb (b .shared .pf) 0) 128 256
+lamps b s = modeLamps (side b s .set) + worth (b .shared .ap) 64 + pfLamp (b .shared .pf)
 
 unfoldable pub shown : Bench → ℕ → Display
 shown b s = record {
@@ -29,6 +33,6 @@ blank = record {
   lateral = 0;
   vertical = 0;
   armed = 0;
-  references = record { heading = pos 0; preselected = pos 0; held = pos 0; «vertical_speed» = pos 0; ias = pos 0; roll = pos 0; pitch = pos 0 };
+  references = zeroReferences;
   lamps = 0;
 }

@@ -1,21 +1,20 @@
 -- Sends and refreshes. Document 01, 'Sends, refreshes, knobs'.
 use mathlib.Core.Bool.{cond}
 use Prim.Native.Nat.{ℕ}
-use lib.Dec.{eqb}
-use Rattle.modes.specs.Events.{otherSide}
 use Rattle.bench.specs.declared.Bench.{Bench}
-use Rattle.bench.specs.Holds.{side, inbox, withSide, withInbox}
+use Rattle.bench.specs.Parts.{withBox, withSet, withReferences}
+use Rattle.bench.specs.Sides.{otherSide, inboxOf, side, inbox, acts}
 use Rattle.steps.specs.Entry.{settled}
 use Rattle.steps.specs.Steps.{secondStep}
 
--- a send copies a side's FD, set and references to the other side's inbox
+-- a send copies a side's channel to the other side's inbox
 unfoldable pub sent : ℕ → Bench → Bench
-sent s b = withInbox (otherSide s) (side b s) b
+sent s b = withBox (inboxOf (otherSide s)) (side b s) b
 
--- the passive side takes set and references from its inbox, and not FD
+-- set and references come from the inbox, and the flight director stays
 unfoldable pub taken : ℕ → Bench → Bench
-taken s b = withSide s (record { fd = side b s .fd; set = inbox b s .set; references = inbox b s .references }) b
+taken s b = withBox s (withReferences (inbox b s .references) (withSet (inbox b s .set) (side b s))) b
 
--- a refresh of the active side does the second step, with entry
+-- a side that acts does the second step of an event, with entry; one that does not takes what was sent to it
 unfoldable pub refreshed : ℕ → Bench → Bench
-refreshed s b = cond (eqb s (b .shared .pf)) (settled (secondStep b s) s b) (taken s b)
+refreshed s b = cond (acts b s) (settled (secondStep s b) s b) (taken s b)

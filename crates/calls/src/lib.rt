@@ -8,31 +8,40 @@ use answers::Display;
 use answers::DisplayAnswer;
 use answers::EventAnswer;
 use bench::Bench;
-use bench::Channel;
-use bench::Readings;
-use bench::References;
+use bench::parts::box_of;
+use bench::parts::inbox_of;
+use bench::parts::with_box;
 ghost use mathlib.Core.Path.{_≡_};
-ghost use lib.Count.{trailingZeros};
-ghost use Rattle.bench.specs.Readings.{stored};
-ghost use Rattle.calls.specs.Displays.{lamps, shown, blank};
-ghost use Rattle.calls.specs.Calls.{acted, eventCall, turnCall, received, readingCall, sendCall, refreshCall, displayCall};
+ghost use mathlib.Core.Bool.{cond};
+ghost use Rattle.bench.specs.Sound.{sound};
+ghost use Rattle.calls.specs.Displays.{pfLamp, lamps, shown, blank};
+ghost use Rattle.calls.specs.Calls.{Call, sideRefusal, knobRefusal, wordRefusal, acted, received, answer, eventAnswer, displayAnswer};
 ghost use Rattle.calls.specs.Sends.{sent, taken, refreshed};
-ghost use Rattle.calls.specs.Tables.{answerOf, eventAnswerOf, displayAnswerOf};
 
-fn answer(refusal: u32, b: Bench) -> Answer
-    ensures { λ res. ⌜ res ≡ answerOf refusal b ⌝ }
+// The refusal of a call whose own arguments give `own`: 1, an unsound bench, is tried first.
+fn refusal_of(b: Bench, own: u32) -> u32
+    ensures { λ res. ⌜ res ≡ cond (sound b) own 1 ⌝ }
 {
-    Answer { refusal, bench: b }
+    let sound = bench::is_sound(b);
+    if sound { own } else { 1 }
 }
 
-fn event_answer(refusal: u32, event: u32, b: Bench) -> EventAnswer
-    ensures { λ res. ⌜ res ≡ eventAnswerOf refusal event b ⌝ }
+fn side_refusal(side: u32) -> u32
+    ensures { λ res. ⌜ res ≡ sideRefusal side ⌝ }
 {
-    EventAnswer {
-        refusal,
-        event,
-        bench: b,
-    }
+    if side <= 1 { 0 } else { 2 }
+}
+
+fn knob_refusal(knob: u32) -> u32
+    ensures { λ res. ⌜ res ≡ knobRefusal knob ⌝ }
+{
+    if knob <= 3 { 0 } else { 3 }
+}
+
+fn word_refusal(word: u32) -> u32
+    ensures { λ res. ⌜ res ≡ wordRefusal word ⌝ }
+{
+    if 1048576 <= word { 4 } else { 0 }
 }
 
 // The event of a number is acted on; 32 is none.
@@ -47,141 +56,93 @@ fn act(b: Bench, number: u32) -> Bench
 
 // An event word: the lowest bit set is acted on.
 pub fn event(b: Bench, word: u32) -> EventAnswer
-    ensures { λ res. ⌜ res ≡ eventCall b word ⌝ }
+    ensures { λ res. ⌜ res ≡ eventAnswer b word ⌝ }
 {
-    let sound = bench::is_sound(b);
-    if !sound {
-        return event_answer(1, 32, b);
-    }
-    if 1048576 <= word {
-        return event_answer(4, 32, b);
+    let refusal = refusal_of(b, word_refusal(word));
+    if refusal != 0 {
+        return EventAnswer {
+            refusal,
+            event: 32,
+            bench: b,
+        };
     }
     let number = u32::trailing_zeros(word);
-    let next = act(b, number);
-    event_answer(0, number, next)
+    let bench = act(b, number);
+    EventAnswer {
+        refusal: 0,
+        event: number,
+        bench,
+    }
 }
 
 // A knob's new count.
 pub fn turn(b: Bench, knob: u32, new: u8) -> Answer
-    ensures { λ res. ⌜ res ≡ turnCall b knob new ⌝ }
+    ensures { λ res. ⌜ res ≡ answer b (Call.turn knob new) ⌝ }
 {
-    let sound = bench::is_sound(b);
-    if !sound {
-        return answer(1, b);
+    let refusal = refusal_of(b, knob_refusal(knob));
+    if refusal != 0 {
+        return Answer { refusal, bench: b };
     }
-    if 3 < knob {
-        return answer(3, b);
-    }
-    let next = knobs::turn_to(b, knob, new);
-    answer(0, next)
-}
-
-fn store(w: Readings, r: bench::Reading) -> Readings
-    ensures { λ res. ⌜ res ≡ stored r w ⌝ }
-{
-    let mut next = w;
-    match r {
-        bench::Reading::Altitude(x) => {
-            next.altitude = x;
-            next
-        }
-        bench::Reading::Airspeed(x) => {
-            next.airspeed = x;
-            next
-        }
-        bench::Reading::VerticalSpeed(x) => {
-            next.vertical_speed = x;
-            next
-        }
-        bench::Reading::Roll(x) => {
-            next.roll = x;
-            next
-        }
-        bench::Reading::Pitch(x) => {
-            next.pitch = x;
-            next
-        }
-        bench::Reading::Heading(x) => {
-            next.heading = x;
-            next
-        }
-    }
+    let bench = knobs::turn_to(b, knob, new);
+    Answer { refusal: 0, bench }
 }
 
 fn receive(b: Bench, r: bench::Reading) -> Bench
     ensures { λ res. ⌜ res ≡ received r b ⌝ }
 {
     let was = b.readings;
-    let readings = store(was, r);
-    let mut next = b;
-    next.readings = readings;
-    next
+    bench::parts::with_readings(b, bench::feed::store(was, r))
 }
 
 // A reading of the air data feed.
 pub fn reading(b: Bench, r: bench::Reading) -> Answer
-    ensures { λ res. ⌜ res ≡ readingCall b r ⌝ }
+    ensures { λ res. ⌜ res ≡ answer b (Call.reading r) ⌝ }
 {
-    let sound = bench::is_sound(b);
-    if !sound {
-        return answer(1, b);
+    let refusal = refusal_of(b, bench::feed::reading_refusal(r));
+    if refusal != 0 {
+        return Answer { refusal, bench: b };
     }
-    let refusal = bench::reading_refusal(r);
-    if refusal == 0 {
-        let next = receive(b, r);
-        answer(0, next)
-    } else {
-        answer(refusal, b)
-    }
+    let bench = receive(b, r);
+    Answer { refusal: 0, bench }
 }
 
 fn post(b: Bench, side: u32) -> Bench
     ensures { λ res. ⌜ res ≡ sent side b ⌝ }
 {
-    let c = bench::side_of(b, side);
-    bench::with_inbox(b, events::other_side(side), c)
+    let c = box_of(b, side);
+    with_box(b, inbox_of(bench::other_side(side)), c)
 }
 
 // A side's flight director, set and references go to the other side's inbox.
 pub fn send(b: Bench, side: u32) -> Answer
-    ensures { λ res. ⌜ res ≡ sendCall b side ⌝ }
+    ensures { λ res. ⌜ res ≡ answer b (Call.send side) ⌝ }
 {
-    let sound = bench::is_sound(b);
-    if !sound {
-        return answer(1, b);
+    let refusal = refusal_of(b, side_refusal(side));
+    if refusal != 0 {
+        return Answer { refusal, bench: b };
     }
-    if 1 < side {
-        return answer(2, b);
-    }
-    let next = post(b, side);
-    answer(0, next)
+    let bench = post(b, side);
+    Answer { refusal: 0, bench }
 }
 
 // Set and references from the inbox; the flight director stays.
 fn take(b: Bench, side: u32) -> Bench
     ensures { λ res. ⌜ res ≡ taken side b ⌝ }
 {
-    let c = bench::side_of(b, side);
-    let sent = bench::inbox_of(b, side);
+    let c = box_of(b, side);
+    let sent = box_of(b, inbox_of(side));
     let set = sent.set;
     let references = sent.references;
-    bench::with_side(
-        b,
-        side,
-        Channel {
-            fd: c.fd,
-            set,
-            references,
-        },
-    )
+    let next = bench::parts::with_set(c, set);
+    with_box(b, side, bench::parts::with_references(next, references))
 }
 
 fn renew(b: Bench, side: u32) -> Bench
     ensures { λ res. ⌜ res ≡ refreshed side b ⌝ }
 {
-    let shared = b.shared;
-    if side == shared.pf {
-        let set = steps::second_step(b, side);
+    let acts = bench::side_acts(b, side);
+    if acts {
+        let set = steps::second_step(side, b);
         steps::settle(b, side, set)
     } else {
         take(b, side)
@@ -190,17 +151,23 @@ fn renew(b: Bench, side: u32) -> Bench
 
 // The passive side takes over what was sent to it last; the active side applies the On rule.
 pub fn refresh(b: Bench, side: u32) -> Answer
-    ensures { λ res. ⌜ res ≡ refreshCall b side ⌝ }
+    ensures { λ res. ⌜ res ≡ answer b (Call.refresh side) ⌝ }
 {
-    let sound = bench::is_sound(b);
-    if !sound {
-        return answer(1, b);
+    let refusal = refusal_of(b, side_refusal(side));
+    if refusal != 0 {
+        return Answer { refusal, bench: b };
     }
-    if 1 < side {
-        return answer(2, b);
+    let bench = renew(b, side);
+    Answer { refusal: 0, bench }
+}
+
+fn pf_lamp(pf: u32) -> u32
+    ensures { λ res. ⌜ res ≡ pfLamp pf ⌝ }
+{
+    match pf {
+        0 => 128,
+        _ => 256,
     }
-    let next = renew(b, side);
-    answer(0, next)
 }
 
 // The mode lamps of a side, AP 64, PF left 128 and PF right 256.
@@ -208,18 +175,18 @@ fn lamps_of(b: Bench, side: u32) -> u32
     ensures { λ res. ⌜ res ≡ lamps b side ⌝ }
 {
     let shared = b.shared;
-    let c = bench::side_of(b, side);
+    let c = box_of(b, side);
     let set = c.set;
     let modes_lit = modes::numbers::mode_lamps(set);
     let ap = modes::numbers::worth(shared.ap, 64);
-    let lit = modes_lit + ap;
-    if shared.pf == 0 { lit + 128 } else { lit + 256 }
+    let pf = pf_lamp(shared.pf);
+    modes_lit + ap + pf
 }
 
 fn show(b: Bench, side: u32) -> Display
     ensures { λ res. ⌜ res ≡ shown b side ⌝ }
 {
-    let c = bench::side_of(b, side);
+    let c = box_of(b, side);
     let set = c.set;
     let references = c.references;
     let lateral = modes::numbers::lateral_law(set);
@@ -239,47 +206,34 @@ fn show(b: Bench, side: u32) -> Display
 fn blank_display() -> Display
     ensures { λ res. ⌜ res ≡ blank ⌝ }
 {
+    let references = bench::parts::zero_references();
     Display {
         fd: false,
         lateral: 0,
         vertical: 0,
         armed: 0,
-        references: References {
-            heading: 0,
-            preselected: 0,
-            held: 0,
-            vertical_speed: 0,
-            ias: 0,
-            roll: 0,
-            pitch: 0,
-        },
+        references,
         lamps: 0,
-    }
-}
-
-fn display_answer(refusal: u32, d: Display, b: Bench) -> DisplayAnswer
-    ensures { λ res. ⌜ res ≡ displayAnswerOf refusal d b ⌝ }
-{
-    DisplayAnswer {
-        refusal,
-        display: d,
-        bench: b,
     }
 }
 
 // What a side shows. The bench stays as it is.
 pub fn display(b: Bench, side: u32) -> DisplayAnswer
-    ensures { λ res. ⌜ res ≡ displayCall b side ⌝ }
+    ensures { λ res. ⌜ res ≡ displayAnswer b side ⌝ }
 {
-    let sound = bench::is_sound(b);
-    if !sound {
-        let blank = blank_display();
-        return display_answer(1, blank, b);
+    let refusal = refusal_of(b, side_refusal(side));
+    if refusal != 0 {
+        let display = blank_display();
+        return DisplayAnswer {
+            refusal,
+            display,
+            bench: b,
+        };
     }
-    if 1 < side {
-        let blank = blank_display();
-        return display_answer(2, blank, b);
+    let display = show(b, side);
+    DisplayAnswer {
+        refusal: 0,
+        display,
+        bench: b,
     }
-    let d = show(b, side);
-    display_answer(0, d, b)
 }

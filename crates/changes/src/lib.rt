@@ -11,9 +11,11 @@ use modes::numbers::lateral_number;
 use modes::numbers::vertical_number;
 use modes::sets::basic_modes;
 ghost use mathlib.Core.Path.{_≡_};
-ghost use Rattle.modes.specs.Sets.{PITCH, NAV, LAPPR, HDG, ALTSEL, VAPPR, clear, engage, withLateral, withVertical, withArmed, withVapprArmed};
-ghost use Rattle.modes.specs.Events.{lineOf, overspeed, goAround, clearNavigation, capture, captureVappr, track, switch, switchNav, switchAppr, switchFlc};
-ghost use Rattle.changes.specs.Tables.{navNotArmed, lapprNotArmed, leaving, toLateral, toVertical, armNav, switched};
+ghost use mathlib.Core.Bool.{cond};
+ghost use Rattle.modes.specs.declared.ArmedLateral.{ArmedLateral};
+ghost use Rattle.modes.specs.Sets.{PITCH, NAV, LAPPR, HDG, VS, ALT, ALTSEL, VAPPR, clear, engage, withLateral, withVertical, withArmed, withVapprArmed};
+ghost use Rattle.modes.specs.Events.{lineOf, overspeed, capture, captureVappr, track, switch, switchNav, switchAppr, switchFlc};
+ghost use Rattle.changes.specs.Private.{toLateral, toVertical};
 
 fn with_lateral(m: Modes, l: Lateral) -> Modes
     ensures { λ res. ⌜ res ≡ withLateral l m ⌝ }
@@ -62,27 +64,14 @@ fn with_vappr_armed(m: Modes, f: bool) -> Modes
     next
 }
 
-fn nav_not_armed(a: ArmedLateral) -> ArmedLateral
-    ensures { λ res. ⌜ res ≡ navNotArmed a ⌝ }
+// The armed lateral mode, and none where its arming ends.
+fn armed_unless(ends: bool, a: ArmedLateral) -> ArmedLateral
+    ensures { λ res. ⌜ res ≡ cond ends ArmedLateral.Neither a ⌝ }
 {
-    match a {
-        ArmedLateral::Neither => ArmedLateral::Neither,
-        ArmedLateral::Nav => ArmedLateral::Neither,
-        ArmedLateral::Lappr => ArmedLateral::Lappr,
-    }
+    if ends { ArmedLateral::Neither } else { a }
 }
 
-fn lappr_not_armed(a: ArmedLateral) -> ArmedLateral
-    ensures { λ res. ⌜ res ≡ lapprNotArmed a ⌝ }
-{
-    match a {
-        ArmedLateral::Neither => ArmedLateral::Neither,
-        ArmedLateral::Nav => ArmedLateral::Nav,
-        ArmedLateral::Lappr => ArmedLateral::Neither,
-    }
-}
-
-// VAPPR neither armed nor engaged; where it was engaged, PITCH is.
+// VAPPR neither armed nor engaged; where it was engaged (law 7), PITCH is.
 fn clear_vappr(m: Modes) -> Modes
     ensures { λ res. ⌜ res ≡ clear VAPPR m ⌝ }
 {
@@ -95,53 +84,48 @@ fn clear_vappr(m: Modes) -> Modes
     }
 }
 
-// LAPPR neither armed nor engaged, and VAPPR with it.
+// LAPPR neither armed nor engaged (law 4), and VAPPR with it.
 fn clear_lappr(m: Modes) -> Modes
     ensures { λ res. ⌜ res ≡ clear LAPPR m ⌝ }
 {
     let l = m.lateral;
     let a = m.armed;
     let law = lateral_number(l);
-    let unarmed = with_armed(clear_vappr(m), lappr_not_armed(a));
+    let unarmed = with_armed(clear_vappr(m), armed_unless(arms_lappr(a), a));
     match law {
         4 => with_lateral(unarmed, Lateral::Roll),
         _ => unarmed,
     }
 }
 
-// NAV neither armed nor engaged.
+// NAV neither armed nor engaged (law 3).
 fn clear_nav(m: Modes) -> Modes
     ensures { λ res. ⌜ res ≡ clear NAV m ⌝ }
 {
     let l = m.lateral;
     let a = m.armed;
     let law = lateral_number(l);
-    let unarmed = with_armed(m, nav_not_armed(a));
+    let unarmed = with_armed(m, armed_unless(arms_nav(a), a));
     match law {
         3 => with_lateral(unarmed, Lateral::Roll),
         _ => unarmed,
     }
 }
 
-// The mode of a lateral law is left. ROLL, HDG and LGA take nothing with them.
-fn leave(law: u32, m: Modes) -> Modes
-    ensures { λ res. ⌜ res ≡ leaving law m ⌝ }
-{
-    match law {
-        3 => clear_nav(m),
-        4 => clear_lappr(m),
-        _ => m,
-    }
-}
-
+// The lateral mode that is left is cleared. ROLL, HDG and LGA take nothing with them.
 fn to_lateral(m: Modes, l: Lateral) -> Modes
     ensures { λ res. ⌜ res ≡ toLateral l m ⌝ }
 {
     let was = m.lateral;
-    with_lateral(leave(lateral_number(was), m), l)
+    let law = lateral_number(was);
+    match law {
+        3 => with_lateral(clear_nav(m), l),
+        4 => with_lateral(clear_lappr(m), l),
+        _ => with_lateral(m, l),
+    }
 }
 
-// VAPPR that was engaged is not armed afterwards; one that was armed stays so.
+// VAPPR that was engaged (law 7) is not armed afterwards; one that was armed stays so.
 fn to_vertical(m: Modes, v: Vertical) -> Modes
     ensures { λ res. ⌜ res ≡ toVertical v m ⌝ }
 {
@@ -166,26 +150,14 @@ fn overspeed_begins(flag: bool, m: Modes) -> Modes
 {
     let v = m.vertical;
     let law = vertical_number(v);
-    if flag | (law == 4) | (law == 5) | (law == 6) {
-        m
-    } else {
-        to_vertical(m, Vertical::Flc)
+    match law {
+        4..=6 => m,
+        _ => if flag {
+            m
+        } else {
+            to_vertical(m, Vertical::Flc)
+        },
     }
-}
-
-// 4
-fn go_around(m: Modes) -> Modes
-    ensures { λ res. ⌜ res ≡ goAround m ⌝ }
-{
-    let around = to_lateral(m, Lateral::Lga);
-    to_vertical(around, Vertical::Vga)
-}
-
-// 8
-fn source_changed(m: Modes) -> Modes
-    ensures { λ res. ⌜ res ≡ clearNavigation m ⌝ }
-{
-    clear_lappr(clear_nav(m))
 }
 
 // 9
@@ -193,8 +165,7 @@ fn nav_captured(m: Modes) -> Modes
     ensures { λ res. ⌜ res ≡ capture NAV m ⌝ }
 {
     let a = m.armed;
-    let armed = arms_nav(a);
-    if armed {
+    if arms_nav(a) {
         with_armed(to_lateral(m, Lateral::Nav), ArmedLateral::Neither)
     } else {
         m
@@ -206,24 +177,26 @@ fn lappr_captured(m: Modes) -> Modes
     ensures { λ res. ⌜ res ≡ capture LAPPR m ⌝ }
 {
     let a = m.armed;
-    let armed = arms_lappr(a);
-    if armed {
+    if arms_lappr(a) {
         with_armed(with_lateral(m, Lateral::Lappr), ArmedLateral::Neither)
     } else {
         m
     }
 }
 
-// 11
+// 11: VAPPR that is armed beside LAPPR (law 4).
 fn vappr_captured(flag: bool, m: Modes) -> Modes
     ensures { λ res. ⌜ res ≡ captureVappr flag m ⌝ }
 {
     let l = m.lateral;
     let law = lateral_number(l);
-    if m.vappr_armed & (law == 4) & !flag {
-        with_vappr_armed(with_vertical(m, Vertical::Vappr), false)
-    } else {
-        m
+    match law {
+        4 => if m.vappr_armed & !flag {
+            with_vappr_armed(with_vertical(m, Vertical::Vappr), false)
+        } else {
+            m
+        },
+        _ => m,
     }
 }
 
@@ -233,14 +206,13 @@ fn altsel_captured(m: Modes) -> Modes
 {
     let v = m.vertical;
     let law = vertical_number(v);
-    if (law <= 3) | (law == 8) {
-        with_vertical(m, Vertical::AltselCapture)
-    } else {
-        m
+    match law {
+        1..=3 | 8 => with_vertical(m, Vertical::AltselCapture),
+        _ => m,
     }
 }
 
-// 13
+// 13: ALTSEL in capture is law 5.
 fn altsel_on_track(m: Modes) -> Modes
     ensures { λ res. ⌜ res ≡ track m ⌝ }
 {
@@ -252,7 +224,7 @@ fn altsel_on_track(m: Modes) -> Modes
     }
 }
 
-// 14
+// 14: HDG is law 2.
 fn hdg_switch(m: Modes) -> Modes
     ensures { λ res. ⌜ res ≡ switch HDG m ⌝ }
 {
@@ -264,72 +236,77 @@ fn hdg_switch(m: Modes) -> Modes
     }
 }
 
-// NAV is armed, and LAPPR is no longer.
-fn arm_nav(m: Modes) -> Modes
-    ensures { λ res. ⌜ res ≡ armNav m ⌝ }
-{
-    let a = m.armed;
-    let approach = arms_lappr(a);
-    if approach {
-        with_armed(clear_lappr(m), ArmedLateral::Nav)
-    } else {
-        with_armed(m, ArmedLateral::Nav)
-    }
-}
-
-// 15
+// 15: NAV (law 3) is cleared or armed; armed, it takes the place of LAPPR.
 fn nav_switch(m: Modes) -> Modes
     ensures { λ res. ⌜ res ≡ switchNav m ⌝ }
 {
     let l = m.lateral;
     let a = m.armed;
     let law = lateral_number(l);
-    let armed = arms_nav(a);
-    if (law == 3) | armed {
-        clear_nav(m)
-    } else {
-        arm_nav(m)
+    match law {
+        3 => clear_nav(m),
+        _ => match a {
+            ArmedLateral::Neither => with_armed(m, ArmedLateral::Nav),
+            ArmedLateral::Nav => clear_nav(m),
+            ArmedLateral::Lappr => with_armed(clear_lappr(m), ArmedLateral::Nav),
+        },
     }
 }
 
-// 16
+// 16: LAPPR is law 4.
 fn appr_switch(m: Modes) -> Modes
     ensures { λ res. ⌜ res ≡ switchAppr m ⌝ }
 {
     let l = m.lateral;
     let a = m.armed;
     let law = lateral_number(l);
-    let armed = arms_lappr(a);
-    if (law == 4) | armed {
-        clear_lappr(m)
-    } else {
-        with_vappr_armed(with_armed(m, ArmedLateral::Lappr), true)
+    match law {
+        4 => clear_lappr(m),
+        _ => if arms_lappr(a) {
+            clear_lappr(m)
+        } else {
+            with_vappr_armed(with_armed(m, ArmedLateral::Lappr), true)
+        },
     }
 }
 
-// 17 to 19: the switch of a vertical mode with its law.
-fn vertical_switch(m: Modes, law: u32, v: Vertical) -> Modes
-    ensures { λ res. ⌜ res ≡ switched law v m ⌝ }
+// 17: VS is law 2.
+fn vs_switch(m: Modes) -> Modes
+    ensures { λ res. ⌜ res ≡ switch VS m ⌝ }
 {
-    let was = m.vertical;
-    let shown = vertical_number(was);
-    if shown == law {
-        with_vertical(m, Vertical::Pitch)
-    } else {
-        to_vertical(m, v)
+    let v = m.vertical;
+    let law = vertical_number(v);
+    match law {
+        2 => with_vertical(m, Vertical::Pitch),
+        _ => to_vertical(m, Vertical::Vs),
     }
 }
 
-// 18: FLC engaged with the flag set stays.
+// 18: FLC (law 3) engaged with the flag set stays.
 fn flc_switch(flag: bool, m: Modes) -> Modes
     ensures { λ res. ⌜ res ≡ switchFlc flag m ⌝ }
 {
     let v = m.vertical;
     let law = vertical_number(v);
-    if (law == 3) & flag {
-        m
-    } else {
-        vertical_switch(m, 3, Vertical::Flc)
+    match law {
+        3 => if flag {
+            m
+        } else {
+            with_vertical(m, Vertical::Pitch)
+        },
+        _ => to_vertical(m, Vertical::Flc),
+    }
+}
+
+// 19: ALT is law 4.
+fn alt_switch(m: Modes) -> Modes
+    ensures { λ res. ⌜ res ≡ switch ALT m ⌝ }
+{
+    let v = m.vertical;
+    let law = vertical_number(v);
+    match law {
+        4 => with_vertical(m, Vertical::Pitch),
+        _ => to_vertical(m, Vertical::Alt),
     }
 }
 
@@ -338,15 +315,10 @@ pub fn change(e: Event, flag: bool, m: Modes) -> Modes
     ensures { λ res. ⌜ res ≡ lineOf e .change flag m ⌝ }
 {
     match e {
-        Event::ApDisconnect => m,
-        Event::ApSwitch => m,
         Event::OverspeedBegins => overspeed_begins(flag, m),
-        Event::OverspeedEnds => m,
-        Event::GoAround => go_around(m),
+        Event::GoAround => to_vertical(to_lateral(m, Lateral::Lga), Vertical::Vga),
         Event::Transfer => basic_modes(),
-        Event::FdSwitchLeft => m,
-        Event::FdSwitchRight => m,
-        Event::SourceChanged => source_changed(m),
+        Event::SourceChanged => clear_lappr(clear_nav(m)),
         Event::NavCaptured => nav_captured(m),
         Event::LapprCaptured => lappr_captured(m),
         Event::VapprCaptured => vappr_captured(flag, m),
@@ -355,9 +327,9 @@ pub fn change(e: Event, flag: bool, m: Modes) -> Modes
         Event::HdgSwitch => hdg_switch(m),
         Event::NavSwitch => nav_switch(m),
         Event::ApprSwitch => appr_switch(m),
-        Event::VsSwitch => vertical_switch(m, 2, Vertical::Vs),
+        Event::VsSwitch => vs_switch(m),
         Event::FlcSwitch => flc_switch(flag, m),
-        Event::AltSwitch => vertical_switch(m, 4, Vertical::Alt),
-        Event::NoEvent => m,
+        Event::AltSwitch => alt_switch(m),
+        _ => m,
     }
 }

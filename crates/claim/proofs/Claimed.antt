@@ -1,82 +1,128 @@
--- The claim over a list of calls, proved. Assumes nothing.
-use mathlib.Core.Path.{_≡_, refl, sym, _∙_}
-use mathlib.Core.Bool.{true}
-use mathlib.Core.List.{List, [], _∷_, _++_}
+-- The claim over a list of calls, proved from any sound bench; power-on is an instance. Assumes nothing.
+use mathlib.Core.Path.{_≡_, refl, sym, ap, _∙_}
+use mathlib.Core.Bool.{true, false}
+use mathlib.Core.List.{List, [], _∷_, _++_, map}
 use Prim.Native.Nat.{ℕ, _≤_}
-use native.Mathlib.Omega.{arith}
+use borrow.Author.Tests.{ne-eqb}
 use lib.Dec.{eqb}
-use Rattle.modes.specs.Events.{otherSide}
-use Rattle.bench.specs.Holds.{side, inbox, powerOn}
+use Rattle.bench.specs.declared.Bench.{Bench}
+use Rattle.bench.specs.declared.Channel.{Channel}
+use Rattle.bench.specs.Holds.{powerOn}
+use Rattle.bench.specs.Sides.{otherSide, side, inbox, acts}
 use Rattle.bench.specs.Sound.{sound}
-use Rattle.soundness.proofs.Kept.{power-on-sound}
-use Rattle.soundness.proofs.Kept.Parts.{by-cond}
-use Rattle.claim.specs.Lists.{Call, send, refresh, next, after, transfers, refreshes, sends, pilotFlying, None}
-use Rattle.claim.specs.Claim.{displayAfter, SameShown, Claim}
-use Rattle.claim.proofs.Sides.{by-side, Same, same, same-trans}
-use Rattle.claim.proofs.OneCall.{next-sound, step, sent-inbox, refreshed-side}
-use Rattle.claim.proofs.Shows.{display-refusal, display-shown, display-keeps, shown-same}
+use Rattle.bench.proofs.Replaced.{by-side}
+use Rattle.calls.specs.declared.answers.Display.{Display}
+use Rattle.calls.specs.Calls.{Call, event, turn, reading, send, refresh, display, refusal, next, answer, eventAnswer, displayAnswer, reply}
+use Rattle.soundness.proofs.Kept.{power-on-sound, next-sound}
+use Rattle.claim.specs.Lists.{after, replies, transfers, refreshes, sends, pilotFrom, None}
+use Rattle.claim.specs.Claim.{displayFrom, SameShown, ShowsHeld, turnedAway, ClaimOf, Claim, ClaimFrom, Refused, Claims}
+use Rattle.claim.proofs.Sides.{Same, same, same-trans}
+use Rattle.claim.proofs.OneCall.{other-side, step, sent-inbox, refreshed-side, unsound-next}
+use Rattle.claim.proofs.Shows.{display-refusal, display-shown, display-keeps, shows-held, same-held}
 use Rattle.claim.proofs.Lists.{after-append, after-sound, after-refusals, after-served, after-pilot, inbox-kept, passive-kept}
 
--- the bench after a list from power-on is sound
-pub sound-after : (cs : List Call) → sound (after powerOn cs) ≡ true
-sound-after cs = after-sound cs powerOn power-on-sound
+-- ---- from a sound bench
 
-pilot-after : (cs : List Call) → after powerOn cs .shared .pf ≡ pilotFlying cs
+module _ (start : Bench) (sound-start : sound start ≡ true) where
+  pub sound-from : (cs : List Call) → sound (after start cs) ≡ true
+  sound-from cs = after-sound cs start sound-start
+
+  pilot-from : (cs : List Call) → after start cs .shared .pf ≡ pilotFrom (start .shared .pf) cs
+  pilot-from cs = after-pilot cs start sound-start
+
+  -- a display of a side after a list shows what a channel with the same set and references holds
+  shows : (cs : List Call) (s : ℕ) → s ≤ 1 → (c : Channel) → Same (side (after start cs) s) c → ShowsHeld c (displayFrom start cs s .display)
+  shows cs s hs c e = rw (display-shown (after start cs) (sound-from cs) s hs) (shows-held (after start cs) s c e)
+
+  -- ---- the passive side's rule, for a side s and the calls ahead of its last refresh
+
+  module _ (s : ℕ) (hs : s ≤ 1) (pre post : List Call) (passive : pilotFrom (start .shared .pf) pre ≡ s → ⊥) (last : None (refreshes s) post) (kept : None transfers post) where
+    -- s shows what its inbox held at the refresh
+    shows-inbox : ShowsHeld (inbox (after start pre) s) (displayFrom start (pre ++ (refresh s ∷ post)) s .display)
+    unfolding acts
+    shows-inbox =
+        let b = after start pre in
+        let h = sound-from pre in
+        let idle : acts b s ≡ false = ne-eqb s (b .shared .pf) (λ e. passive (sym (pilot-from pre) ∙ sym e)) in
+        let still : acts (next b (refresh s)) s ≡ false = ap (eqb s) (step (refresh s) b h .pf) ∙ idle in
+        let holds : Same (side (after (next b (refresh s)) post) s) (inbox b s) =
+        same-trans (passive-kept s hs post (next b (refresh s)) (next-sound b (refresh s) h) still last kept) (refreshed-side s hs b h idle) in
+        shows (pre ++ (refresh s ∷ post)) s hs (inbox b s) (rw (after-append pre (refresh s ∷ post) start) holds)
+
+  -- what the inbox holds: what the other side held just before its last send, or what it held at the start
+  inbox-sent : (s : ℕ) → s ≤ 1 → (ahead later : List Call) → None (sends (otherSide s)) later
+      → inbox (after start (ahead ++ (send (otherSide s) ∷ later))) s ≡ side (after start ahead) (otherSide s)
+  inbox-sent s hs ahead later n =
+      let b = after start ahead in
+      let h = sound-from ahead in
+      rw (after-append ahead (send (otherSide s) ∷ later) start)
+      (inbox-kept s hs later (next b (send (otherSide s))) (next-sound b (send (otherSide s)) h) n ∙ sent-inbox s hs b h)
+
+  inbox-unsent : (s : ℕ) → s ≤ 1 → (pre : List Call) → None (sends (otherSide s)) pre → inbox (after start pre) s ≡ inbox start s
+  inbox-unsent s hs pre n = inbox-kept s hs pre start sound-start n
+
+  pub claim-from : (cs : List Call) → ClaimFrom start cs
+  claim-from cs = record {
+    served = after-served cs start sound-start;
+    refusals = after-refusals cs start sound-start;
+    pilot-side = pilot-from cs;
+    shown = λ s hs. display-refusal (after start cs) (sound-from cs) s hs;
+    keeps = λ s hs. display-keeps (after start cs) (sound-from cs) s hs;
+    passive = λ s hs pre post e p r t.
+        let d = displayFrom start (pre ++ (refresh s ∷ post)) s .display in
+        let now-held = shows-inbox s hs pre post p r t in
+        rw e
+        (record {
+          sent = λ ahead later k n.
+              same-held (inbox (after start pre) s) d _ now-held
+              (shows ahead (otherSide s) (other-side s) (inbox (after start pre) s) (same (sym (rw k (inbox-sent s hs ahead later n)))));
+          unsent = λ n. rw (inbox-unsent s hs pre n) at now-held;
+        });
+  }
+
+-- ---- from power-on
+
+-- at power-on an inbox holds what the other side does
+inbox-start : (s : ℕ) → s ≤ 1 → inbox powerOn s ≡ side powerOn (otherSide s)
 unfolding powerOn
-pilot-after cs = after-pilot cs powerOn power-on-sound
-
-other-side : (s : ℕ) → otherSide s ≤ 1
-other-side s = by-cond (λ (n : ℕ). n ≤ 1) (eqb s 0) 1 0 (λ _. omega arith) (λ _. omega arith)
-
--- ---- the passive side's rule, for a side s and the calls ahead of its last refresh
-
-module _ (s : ℕ) (hs : s ≤ 1) (pre post : List Call) (passive : pilotFlying pre ≡ s → ⊥) (last : None (refreshes s) post) (kept : None transfers post) where
-  -- s holds what its inbox held at the refresh
-  holds : Same (side (after powerOn (pre ++ (refresh s ∷ post))) s) (inbox (after powerOn pre) s)
-  holds =
-      let b = after powerOn pre in
-      let h = sound-after pre in
-      let n : b .shared .pf ≡ s → ⊥ = λ e. passive (sym (pilot-after pre) ∙ e) in
-      let m : next b (refresh s) .shared .pf ≡ s → ⊥ = λ e. n (sym (step (refresh s) b h .pf) ∙ e) in
-      rw (after-append pre (refresh s ∷ post) powerOn)
-      (same-trans (passive-kept s hs post (next b (refresh s)) (next-sound b (refresh s) h) m last kept) (refreshed-side s hs b h n))
-
-  -- so it shows what the other side showed where the inbox holds what that side held
-  shows : (cs : List Call) → inbox (after powerOn pre) s ≡ side (after powerOn cs) (otherSide s)
-      → SameShown (displayAfter (pre ++ (refresh s ∷ post)) s .display) (displayAfter cs (otherSide s) .display)
-  shows cs e =
-      rw (
-        display-shown (after powerOn (pre ++ (refresh s ∷ post))) (sound-after (pre ++ (refresh s ∷ post))) s hs,
-        display-shown (after powerOn cs) (sound-after cs) (otherSide s) (other-side s),
-      )
-      (shown-same _ _ s (otherSide s) (same-trans holds (same e)))
-
--- what the inbox holds: what the other side held just before its last send, or at power-on
-inbox-sent : (s : ℕ) → s ≤ 1 → (ahead later : List Call) → None (sends (otherSide s)) later
-    → inbox (after powerOn (ahead ++ (send (otherSide s) ∷ later))) s ≡ side (after powerOn ahead) (otherSide s)
-inbox-sent s hs ahead later n =
-    let b = after powerOn ahead in
-    let h = sound-after ahead in
-    rw (after-append ahead (send (otherSide s) ∷ later) powerOn)
-    (inbox-kept s hs later (next b (send (otherSide s))) (next-sound b (send (otherSide s)) h) n ∙ sent-inbox s hs b h)
-
-inbox-unsent : (s : ℕ) → s ≤ 1 → (pre : List Call) → None (sends (otherSide s)) pre → inbox (after powerOn pre) s ≡ side powerOn (otherSide s)
-unfolding powerOn
-inbox-unsent s hs pre n = inbox-kept s hs pre powerOn power-on-sound n ∙ by-side (λ (s : ℕ). inbox powerOn s ≡ side powerOn (otherSide s)) refl refl s hs
-
--- ---- the claim
+inbox-start s hs = by-side (λ (s : ℕ). inbox powerOn s ≡ side powerOn (otherSide s)) refl refl s hs
 
 pub claim : (cs : List Call) → Claim cs
-claim cs = record {
-  served = after-served cs powerOn power-on-sound;
-  refusals = after-refusals cs powerOn power-on-sound;
-  pilot = pilot-after cs;
-  shown = λ s hs. display-refusal (after powerOn cs) (sound-after cs) s hs;
-  keeps = λ s hs. display-keeps (after powerOn cs) (sound-after cs) s hs;
-  passive = λ s hs pre post e p r t.
-      rw e
-      (record {
-        sent = λ ahead later k n. shows s hs pre post p r t ahead (rw k (inbox-sent s hs ahead later n));
-        unsent = λ n. shows s hs pre post p r t [] (inbox-unsent s hs pre n);
-      });
-}
+unfolding powerOn
+claim cs =
+    let k = claim-from powerOn power-on-sound cs in
+    record {
+      served = k .served;
+      refusals = k .refusals;
+      pilot-side = k .pilot-side;
+      shown = k .shown;
+      keeps = k .keeps;
+      passive = λ s hs pre post e p r t.
+          let shown = k .passive s hs pre post e p r t in
+          record {
+            sent = shown .sent;
+            unsent = λ n.
+                same-held (inbox powerOn s) _ _ (shown .unsent n)
+                (shows powerOn power-on-sound [] (otherSide s) (other-side s) (inbox powerOn s) (same (sym (inbox-start s hs))));
+          };
+    }
+
+-- ---- from an unsound bench
+
+unsound-reply : (b : Bench) → sound b ≡ false → (c : Call) → reply b c ≡ turnedAway c
+unfolding refusal answer eventAnswer displayAnswer
+unsound-reply b h (event word) = rw h
+unsound-reply b h (turn knob n) = rw h
+unsound-reply b h (reading r) = rw h
+unsound-reply b h (send s) = rw h
+unsound-reply b h (refresh s) = rw h
+unsound-reply b h (display s) = rw h
+
+pub refused-from : (start : Bench) → sound start ≡ false → (cs : List Call) → Refused start cs
+refused-from start h [] = record { same-bench = refl; answers = refl }
+refused-from start h (c ∷ cs) =
+    let more = refused-from start h cs in
+    record { same-bench = rw (unsound-next start c h) (more .same-bench); answers = rw (unsound-next start c h) (cc (unsound-reply start h c, more .answers)) }
+
+pub claims : Claims
+claims = record { from-power-on = claim; from-sound = claim-from; from-unsound = refused-from }

@@ -5,15 +5,17 @@ use Rattle.rounding.specs.Whole.{wholeOf}
 use Rattle.modes.specs.Sets.{engaged, armed, cleared, once, coherent, put, disarm, arm, drop, clear, engage}
 use Rattle.modes.specs.Numbers.{armedSum, modeLamps}
 use Rattle.modes.specs.Events.{overspeed, goAround, clearArmed, takeBasic, clearNavigation, capture, captureVappr, track, switch, switchNav, switchAppr, switchFlc}
-use Rattle.modes.specs.Events.{sharedAfter}
-use Rattle.bench.specs.Holds.{withSide, withInbox, powerOn}
-use Rattle.bench.specs.Readings.{refusalOf, stored}
+use Rattle.bench.specs.Parts.{withShared, withCounts, withReadings, withBox, withFd, withSet, withReferences, withReference, withCount}
+use Rattle.bench.specs.Sides.{acts}
+use Rattle.bench.specs.Holds.{startChannel, powerOn}
+use Rattle.bench.specs.Ranges.{referenceRange}
+use Rattle.bench.specs.Readings.{wholeReading, refusalOf, wholeNumber, stored}
 use Rattle.bench.specs.Sound.{referencesSound, channelSound, readingsSound, sound}
-use Rattle.steps.specs.Entry.{entry, settled}
-use Rattle.steps.specs.Steps.{asked, fdAfter, firstStep, secondStep, thirdStep, laterSteps, threeSteps}
-use Rattle.knobs.specs.Knobs.{countOf, withCount, counted, referred, pitched, wheelTurned, altitudeTurned, speedTurned, headingTurned, knobTurned, turned}
+use Rattle.steps.specs.Entry.{loaded, entry, enter, settled}
+use Rattle.steps.specs.Steps.{sharedAfter, asksFor, setsFd, fdAfter, withFdAfter, firstStep, isOn, secondStep, thirdStep, laterSteps, threeSteps}
+use Rattle.knobs.specs.Knobs.{counted, moved, referred, referenceMoved, pitched, wheelTurned, altitudeTurned, headingMoved, headingTurned, knobTurned, turned}
 use Rattle.calls.specs.Displays.{lamps, shown}
-use Rattle.calls.specs.Calls.{eventCall, turnCall, received, readingCall, sendCall, refreshCall, displayCall}
+use Rattle.calls.specs.Calls.{refusal, acted, received, next, answer, eventAnswer, displayAnswer}
 use Rattle.calls.specs.Sends.{sent, taken, refreshed}
 
 -- mode sets and their changes
@@ -25,21 +27,25 @@ unfoldable changes : Unit {0}
 unfolding overspeed goAround clearArmed takeBasic clearNavigation capture captureVappr track switch switchNav switchAppr switchFlc
 changes = tt
 
--- the bench, its readings and its soundness
+-- the parts of a bench, its readings and its soundness
+unfoldable parts : Unit {0}
+unfolding withShared withCounts withReadings withBox withFd withSet withReferences withReference withCount acts startChannel powerOn
+parts = tt
+
 unfoldable benches : Unit {0}
-unfolding ofBits wholeOf withSide withInbox powerOn refusalOf stored referencesSound channelSound readingsSound sound
+unfolding ofBits wholeOf referenceRange wholeReading refusalOf wholeNumber stored referencesSound channelSound readingsSound sound
 benches = tt
 
 -- the steps of an event, and knobs
 unfoldable steps : Unit {0}
-unfolding trailingZeros sharedAfter entry settled asked fdAfter firstStep secondStep thirdStep laterSteps threeSteps
+unfolding trailingZeros loaded entry enter settled sharedAfter asksFor setsFd fdAfter withFdAfter firstStep isOn secondStep thirdStep laterSteps threeSteps
 steps = tt
 
 unfoldable knobs : Unit {0}
-unfolding countOf withCount counted referred pitched wheelTurned altitudeTurned speedTurned headingTurned knobTurned turned
+unfolding counted moved referred referenceMoved pitched wheelTurned altitudeTurned headingMoved headingTurned knobTurned turned
 knobs = tt
 
 -- the calls
 unfoldable pub rules : Unit {0}
-unfolding sets changes benches steps knobs lamps shown eventCall turnCall received readingCall sent sendCall taken refreshed refreshCall displayCall
+unfolding sets changes parts benches steps knobs lamps shown sent taken refreshed refusal acted received next answer eventAnswer displayAnswer
 rules = tt

@@ -1,16 +1,18 @@
 -- From one call to a list of calls, each by a short induction: soundness, refusals, PF, what an inbox holds and what a passive side holds. Assumes nothing.
 use mathlib.Core.Path.{_≡_, refl, sym, ap, _∙_}
-use mathlib.Core.Bool.{Bool, true, cond}
+use mathlib.Core.Bool.{Bool, true, false, cond}
 use mathlib.Core.List.{List, [], _∷_, _++_, map}
 use Prim.Native.Nat.{ℕ, _≤_}
-use Rattle.modes.specs.Events.{otherSide}
+use lib.Dec.{eqb}
 use Rattle.bench.specs.declared.Bench.{Bench}
-use Rattle.bench.specs.Holds.{side, inbox}
+use Rattle.bench.specs.Sides.{otherSide, side, inbox, acts}
 use Rattle.bench.specs.Sound.{sound}
-use Rattle.claim.specs.Lists.{Call, refusalIn, next, after, replies, ownRefusal, transfers, refreshes, sends, pilotFrom, None}
+use Rattle.calls.specs.Calls.{Call, refusalIn, next, ownRefusal}
+use Rattle.soundness.proofs.Kept.{next-sound}
+use Rattle.claim.specs.Lists.{after, replies, transfers, refreshes, sends, pilotFrom, None}
 use Rattle.claim.specs.Claim.{Served}
 use Rattle.claim.proofs.Sides.{Same, same, same-trans}
-use Rattle.claim.proofs.OneCall.{next-sound, own-refusal, own-not-1, step}
+use Rattle.claim.proofs.OneCall.{own-refusal, own-not-1, step}
 
 pub after-append : (pre post : List Call) (b : Bench) → after b (pre ++ post) ≡ after (after b pre) post
 after-append [] post b = refl
@@ -38,10 +40,11 @@ pub inbox-kept : (s : ℕ) → s ≤ 1 → (cs : List Call) (b : Bench) → soun
 inbox-kept s hs [] b h n = refl
 inbox-kept s hs (c ∷ cs) b h n = inbox-kept s hs cs (next b c) (next-sound b c h) (n .1) ∙ step c b h .inboxes s hs (n .0)
 
--- a passive side keeps set and references while it has no refresh and nobody transfers
-pub passive-kept : (s : ℕ) → s ≤ 1 → (cs : List Call) (b : Bench) → sound b ≡ true → (b .shared .pf ≡ s → ⊥)
+-- a side that does not act keeps set and references while it has no refresh and nobody transfers
+pub passive-kept : (s : ℕ) → s ≤ 1 → (cs : List Call) (b : Bench) → sound b ≡ true → acts b s ≡ false
     → None (refreshes s) cs → None transfers cs → Same (side (after b cs) s) (side b s)
+unfolding acts
 passive-kept s hs [] b h p r t = same refl
 passive-kept s hs (c ∷ cs) b h p r t =
     let still = step c b h .pf ∙ ap (λ (m : Bool). cond m (otherSide (b .shared .pf)) (b .shared .pf)) (t .0) in
-    same-trans (passive-kept s hs cs (next b c) (next-sound b c h) (λ e. p (sym still ∙ e)) (r .1) (t .1)) (step c b h .passive s hs p (r .0) (t .0))
+    same-trans (passive-kept s hs cs (next b c) (next-sound b c h) (ap (eqb s) still ∙ p) (r .1) (t .1)) (step c b h .passive s hs p (r .0) (t .0))

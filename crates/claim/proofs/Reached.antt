@@ -6,7 +6,8 @@ use mathlib.Core.List.{List, [], _∷_}
 use Prim.Native.Nat.{ℕ, zero, suc, _≤_}
 use native.Mathlib.Omega.{arith}
 use borrow.Author.Tests.{eqb-true}
-use Rattle.claim.specs.Lists.{Call, event, turn, reading, send, refresh, display, accepted, refreshes, sends, None}
+use Rattle.calls.specs.Calls.{Call, event, turn, reading, send, refresh, display}
+use Rattle.claim.specs.Lists.{accepted, refreshes, sends, None}
 use Rattle.claim.specs.Reached.{Lateral, Vertical, Speaks, Last, Reached}
 use Rattle.claim.proofs.Computing.{rules}
 

@@ -1,5 +1,5 @@
 -- What a display of a sound bench shows: it keeps demand 3's rules on modes, by computing over all representable sets. Assumes nothing.
-use mathlib.Core.Path.{_≡_, refl, ap}
+use mathlib.Core.Path.{_≡_, refl, sym, ap, _∙_}
 use mathlib.Core.Bool.{Bool, true, false, not, false≢true, true≢false}
 use Prim.Native.Nat.{ℕ, _≤_, _/_, _%_}
 use native.Mathlib.Omega.{arith}
@@ -7,20 +7,22 @@ use borrow.Author.Tests.{eqb-true, eqb-false, eq-eqb, not-true}
 use lib.Dec.{T, eqb}
 use Rattle.modes.specs.declared.Modes.{Modes}
 use Rattle.modes.specs.declared.ModeSet.{ModeSet}
-use Rattle.modes.specs.Every.{everyModes, at-modes}
-use Rattle.modes.specs.Sets.{implies, engaged, armed, cleared, once, coherent, coherentSet}
+use Rattle.modes.specs.Every.{everyModes}
+use Rattle.modes.proofs.Every.{at-modes}
+use Rattle.modes.specs.Sets.{implies, engaged, armed, cleared, once, coherent, coherentSet, isOff}
 use Rattle.modes.specs.Numbers.{lateralNumber, verticalNumber, lateralLaw, verticalLaw, armedSum}
 use Rattle.bench.specs.declared.References.{References}
 use Rattle.bench.specs.declared.Channel.{Channel}
 use Rattle.bench.specs.declared.Bench.{Bench}
-use Rattle.bench.specs.Holds.{side}
+use Rattle.bench.specs.Sides.{side}
 use Rattle.bench.specs.Sound.{sound}
-use Rattle.knobs.specs.Knobs.{isOff}
+use Rattle.bench.proofs.Replaced.{by-side}
+use Rattle.calls.specs.declared.answers.Display.{Display}
 use Rattle.calls.specs.Displays.{shown}
-use Rattle.calls.specs.Calls.{displayCall}
+use Rattle.calls.specs.Calls.{refusal, displayAnswer}
 use Rattle.soundness.proofs.Kept.{on-laws}
-use Rattle.soundness.proofs.Kept.Parts.{by-cond, parts}
-use Rattle.claim.specs.Claim.{Keeps, SameShown}
+use Rattle.soundness.proofs.Kept.Parts.{parts}
+use Rattle.claim.specs.Claim.{Keeps, SameShown, ShowsHeld}
 use Rattle.claim.proofs.Sides.{Same}
 use Rattle.claim.proofs.OneCall.{side-accepted}
 
@@ -83,22 +85,31 @@ keeps-set (ModeSet.On m) fd r n h = record {
 -- ---- the display of a sound bench
 
 module _ (b : Bench) (h : sound b ≡ true) (s : ℕ) (hs : s ≤ 1) where
-  pub display-refusal : displayCall b s .refusal ≡ 0
-  unfolding displayCall
+  pub display-refusal : displayAnswer b s .refusal ≡ 0
+  unfolding displayAnswer refusal
   display-refusal = rw (h, side-accepted s hs)
 
-  pub display-shown : displayCall b s .display ≡ shown b s
-  unfolding displayCall
+  pub display-shown : displayAnswer b s .display ≡ shown b s
+  unfolding displayAnswer refusal
   display-shown = rw (h, side-accepted s hs)
 
   side-coherent : coherentSet (side b s .set) ≡ true
-  side-coherent = by-cond (λ (c : Channel). coherentSet (c .set) ≡ true) (eqb s 0) (b .left) (b .right) (λ _. parts b h .left .set) (λ _. parts b h .right .set)
+  side-coherent = by-side (λ (s : ℕ). coherentSet (side b s .set) ≡ true) (parts b h .left .set) (parts b h .right .set) s hs
 
-  pub display-keeps : Keeps (not (isOff (side b s .set))) (displayCall b s .display)
+  pub display-keeps : Keeps (not (isOff (side b s .set))) (displayAnswer b s .display)
   unfolding shown
   display-keeps = rw display-shown (keeps-set (side b s .set) _ _ _ side-coherent)
 
--- sides with the same set and references show the same
-pub shown-same : (x y : Bench) (s t : ℕ) → Same (side x s) (side y t) → SameShown (shown x s) (shown y t)
+-- a side shows what a channel with the same set and references holds
+pub shows-held : (x : Bench) (s : ℕ) (c : Channel) → Same (side x s) c → ShowsHeld c (shown x s)
 unfolding shown
-shown-same x y s t e = record { lateral = ap lateralLaw (e .set); vertical = ap verticalLaw (e .set); armed = ap armedSum (e .set); references = e .references }
+shows-held x s c e = record { lateral = ap lateralLaw (e .set); vertical = ap verticalLaw (e .set); armed = ap armedSum (e .set); references = e .references }
+
+-- two displays that show the same channel show the same
+pub same-held : (c : Channel) (x y : Display) → ShowsHeld c x → ShowsHeld c y → SameShown x y
+same-held c x y p q = record {
+  lateral = p .lateral ∙ sym (q .lateral);
+  vertical = p .vertical ∙ sym (q .vertical);
+  armed = p .armed ∙ sym (q .armed);
+  references = p .references ∙ sym (q .references);
+}

@@ -1,27 +1,36 @@
--- Demand 3, and document 01, 'The claim over a list of calls': one claim about a whole list of calls from power-on, in any order, with any arguments and refused
--- calls included. `after` and `replies` of Lists carry the rules out for each call in turn; `accepted`, `transfers`, `refreshes`, `sends` and `pilotFlying` there
--- go by the calls alone. Here are definitions and the statement only; the proof is in proofs/.
+-- Demand 3, and document 01, 'The claim over a list of calls': one claim about a whole list of calls, in any order, with any arguments and refused calls included,
+-- from power-on and from any other sound bench; and what becomes of a list from an unsound one. `after` and `replies` of Lists carry the rules out for each call in
+-- turn; `accepted`, `transfers`, `refreshes`, `sends` and `pilotFlying` there go by the calls alone. Here are definitions and statements only; the proofs are in proofs/.
 use mathlib.Core.Path.{_≡_}
 use mathlib.Core.Bool.{Bool, true, false, not}
 use mathlib.Core.List.{List, [], _∷_, _++_, map}
 use Prim.Native.Nat.{ℕ, _≤_, _/_, _%_}
-use Rattle.modes.specs.Events.{otherSide}
-use Rattle.bench.specs.Holds.{side, powerOn}
+use Rattle.modes.specs.Sets.{isOff}
+use Rattle.modes.specs.Numbers.{lateralLaw, verticalLaw, armedSum}
+use Rattle.bench.specs.declared.Bench.{Bench}
+use Rattle.bench.specs.declared.Channel.{Channel}
+use Rattle.bench.specs.Holds.{powerOn}
+use Rattle.bench.specs.Sides.{otherSide, side, inbox}
+use Rattle.bench.specs.Sound.{sound}
 use Rattle.calls.specs.declared.answers.Display.{Display}
 use Rattle.calls.specs.declared.answers.DisplayAnswer.{DisplayAnswer}
-use Rattle.knobs.specs.Knobs.{isOff}
-use Rattle.calls.specs.Calls.{displayCall}
-use Rattle.claim.specs.Lists.{Call, send, refresh, Reply, refusalIn, after, replies, ownRefusal, transfers, refreshes, sends, pilotFlying, None}
+use Rattle.calls.specs.Displays.{blank}
+use Rattle.calls.specs.Calls.{Call, event, turn, reading, send, refresh, display, ownRefusal, displayAnswer, Reply, plain, told, shows, refusalIn}
+use Rattle.claim.specs.Lists.{after, replies, transfers, refreshes, sends, pilotFrom, pilotFlying, None}
 
 -- ---- what a display shows
 
--- the answer of a display of side s after a list of calls from power-on
+-- the answer of a display of side s after a list of calls from a start
+abbrev pub displayFrom : Bench → List Call → ℕ → DisplayAnswer
+displayFrom start cs s = displayAnswer (after start cs) s
+
+-- and from power-on
 abbrev pub displayAfter : List Call → ℕ → DisplayAnswer
-displayAfter cs s = displayCall (after powerOn cs) s
+displayAfter cs s = displayFrom powerOn cs s
 
 -- a side has modes on when its set in the rules' bench is On
-abbrev pub modesOn : List Call → ℕ → Bool
-modesOn cs s = not (isOff (side (after powerOn cs) s .set))
+abbrev pub modesOn : Bench → List Call → ℕ → Bool
+modesOn start cs s = not (isOff (side (after start cs) s .set))
 
 -- a mode is shown armed by its number in the armed sum: NAV 1, LAPPR 2, ALTSEL 4, VAPPR 8
 abbrev pub Arms : ℕ → Display → Type 0
@@ -52,6 +61,13 @@ pub record SameShown (x y : Display) : Type 0 where
   pub armed : x .armed ≡ y .armed
   pub references : x .references ≡ y .references
 
+-- d shows the laws, the armed sum and the references of a channel
+pub record ShowsHeld (c : Channel) (d : Display) : Type 0 where
+  pub lateral : d .lateral ≡ lateralLaw (c .set)
+  pub vertical : d .vertical ≡ verticalLaw (c .set)
+  pub armed : d .armed ≡ armedSum (c .set)
+  pub references : d .references ≡ c .references
+
 -- ---- the replies
 
 -- none is a refusal with 1
@@ -59,33 +75,61 @@ abbrev pub Served : List Reply → Type 0
 Served [] = Unit {0}
 Served (r ∷ more) = (refusalIn r ≡ 1 → ⊥) × Served more
 
+-- what a call on an unsound bench is answered: refusal 1, with event 32 and a display of all zeros
+abbrev pub turnedAway : Call → Reply
+turnedAway (event word) = told 1 32
+turnedAway (turn knob n) = plain 1
+turnedAway (reading r) = plain 1
+turnedAway (send s) = plain 1
+turnedAway (refresh s) = plain 1
+turnedAway (display s) = shows 1 blank
+
 -- ---- the passive side's rule
 
 -- d shows "just the modes and references that the other side held at its last send before that refresh, or the power-on ones if there was no send". `other` is the
--- other side, and `pre` are the calls ahead of the refresh
-pub record ShowsSent (other : ℕ) (pre : List Call) (d : Display) : Type 0 where
+-- other side, `pre` are the calls ahead of the refresh, and `Unsent` says what is shown if there was no send since the start
+pub record ShowsSent (start : Bench) (Unsent : Display → Type 0) (other : ℕ) (pre : List Call) (d : Display) : Type 0 where
   -- what a display of the other side would have shown just before its last accepted send: ahead are the calls before this send, later those after it
   pub sent : (ahead later : List Call) → pre ≡ ahead ++ (send other ∷ later) → None (sends other) later
-      → SameShown d (displayAfter ahead other .display)
-  -- what it shows at power-on
-  pub unsent : None (sends other) pre → SameShown d (displayAfter [] other .display)
+      → SameShown d (displayFrom start ahead other .display)
+  pub unsent : None (sends other) pre → Unsent d
 
 -- ---- the claim
 
-pub record Claim (cs : List Call) : Type 0 where
+-- of a list of calls from a start. `pilot` tells the pilot flying's side after a list, and `Unsent s` what side s shows if nothing was sent to it since the start
+pub record ClaimOf (start : Bench) (pilot : List Call → ℕ) (Unsent : ℕ → Display → Type 0) (cs : List Call) : Type 0 where
   -- no call in the list is refused with 1
-  pub served : Served (replies powerOn cs)
+  pub served : Served (replies start cs)
   -- the refusal of each call is that of its own arguments: 0 exactly if it is accepted in the sense of Lists
-  pub refusals : map refusalIn (replies powerOn cs) ≡ map ownRefusal cs
+  pub refusals : map refusalIn (replies start cs) ≡ map ownRefusal cs
   -- the pilot flying's side is the one told from the calls alone
-  pub pilot : after powerOn cs .shared .pf ≡ pilotFlying cs
+  pub pilot-side : after start cs .shared .pf ≡ pilot cs
   -- a display of either side is accepted, and what it shows keeps demand 3's rules on modes
-  pub shown : (s : ℕ) → s ≤ 1 → displayAfter cs s .refusal ≡ 0
-  pub keeps : (s : ℕ) → s ≤ 1 → Keeps (modesOn cs s) (displayAfter cs s .display)
+  pub shown : (s : ℕ) → s ≤ 1 → displayFrom start cs s .refusal ≡ 0
+  pub keeps : (s : ℕ) → s ≤ 1 → Keeps (modesOn start cs s) (displayFrom start cs s .display)
   -- "A side that was passive at its last refresh, and ever since": the list is pre, a refresh of s and post; s did not have the pilot flying at that refresh; post has
   -- no accepted refresh of s, so that it is the last one; and post has no accepted transfer
   pub passive : (s : ℕ) → s ≤ 1 → (pre post : List Call) → cs ≡ pre ++ (refresh s ∷ post)
-      → (pilotFlying pre ≡ s → ⊥)
+      → (pilot pre ≡ s → ⊥)
       → None (refreshes s) post
       → None transfers post
-      → ShowsSent (otherSide s) pre (displayAfter cs s .display)
+      → ShowsSent start (Unsent s) (otherSide s) pre (displayFrom start cs s .display)
+
+-- demand 3, from power-on: PF starts left, and a side to which nothing was sent shows what a display of the other side shows at power-on
+abbrev pub Claim : List Call → Type 0
+Claim cs = ClaimOf powerOn pilotFlying (λ s d. SameShown d (displayAfter [] (otherSide s) .display)) cs
+
+-- from a bench: PF starts on the side that it names, and its inboxes stand for sends not made since
+abbrev pub ClaimFrom : Bench → List Call → Type 0
+ClaimFrom start cs = ClaimOf start (pilotFrom (start .shared .pf)) (λ s d. ShowsHeld (inbox start s) d) cs
+
+-- of a list from an unsound bench: every call is answered 1, and the bench stays as it is
+pub record Refused (start : Bench) (cs : List Call) : Type 0 where
+  pub same-bench : after start cs ≡ start
+  pub answers : replies start cs ≡ map turnedAway cs
+
+-- all three, for every list
+pub record Claims : Type 0 where
+  pub from-power-on : (cs : List Call) → Claim cs
+  pub from-sound : (start : Bench) → sound start ≡ true → (cs : List Call) → ClaimFrom start cs
+  pub from-unsound : (start : Bench) → sound start ≡ false → (cs : List Call) → Refused start cs

@@ -5,8 +5,9 @@ use mathlib.Core.Bool.{Bool}
 use mathlib.Core.Logic.{_⊎_}
 use mathlib.Core.List.{List, [], _∷_, _++_}
 use Prim.Native.Nat.{ℕ, _≤_}
-use Rattle.modes.specs.Events.{otherSide}
-use Rattle.claim.specs.Lists.{Call, send, refresh, transfers, refreshes, sends, pilotFlying, None}
+use Rattle.bench.specs.Sides.{otherSide}
+use Rattle.calls.specs.Calls.{Call, send, refresh}
+use Rattle.claim.specs.Lists.{transfers, refreshes, sends, pilotFlying, None}
 use Rattle.claim.specs.Claim.{displayAfter}
 
 -- a list of calls and a side that shows the law after it

@@ -13,7 +13,8 @@ use Rattle.bench.specs.declared.References.{References}
 use Rattle.bench.specs.declared.Reading.{Reading}
 use Rattle.bench.specs.Holds.{powerOn}
 use Rattle.calls.specs.declared.answers.Display.{Display}
-use Rattle.claim.specs.Lists.{Call, event, turn, reading, send, refresh, done, told, after, replies}
+use Rattle.calls.specs.Calls.{Call, event, turn, reading, send, refresh, plain, told}
+use Rattle.claim.specs.Lists.{after, replies}
 use Rattle.claim.specs.Claim.{displayAfter}
 
 -- ---- names
@@ -22,11 +23,11 @@ use Rattle.claim.specs.Claim.{displayAfter}
 abbrev pub bits : ℕ → Float
 bits n = ofBits binary64 n
 
-abbrev pub left : ℕ
-left = 0
+abbrev pub onLeft : ℕ
+onLeft = 0
 
-abbrev pub right : ℕ
-right = 1
+abbrev pub onRight : ℕ
+onRight = 1
 
 -- what a display of a side shows after a list of calls from power-on
 abbrev pub shownBy : List Call → ℕ → Display
@@ -40,7 +41,7 @@ abbrev pub referencesOf : List Call → ℕ → References
 referencesOf cs s = shownBy cs s .references
 
 abbrev pub headingLeft : List Call → ℤ
-headingLeft cs = referencesOf cs left .heading
+headingLeft cs = referencesOf cs onLeft .heading
 
 -- ---- the lists of calls
 
@@ -98,14 +99,14 @@ ten = event 0 ∷ event 1048576 ∷ []
 
 -- 11: after case 6
 abbrev pub eleven : List Call
-eleven = six ++ (send left ∷ refresh right ∷ [])
+eleven = six ++ (send onLeft ∷ refresh onRight ∷ [])
 
 -- 12: after case 11
 abbrev pub twelve₁ : List Call
 twelve₁ = eleven ++ (event 32 ∷ [])
 
 abbrev pub twelve₂ : List Call
-twelve₂ = twelve₁ ++ (refresh left ∷ [])
+twelve₂ = twelve₁ ++ (refresh onLeft ∷ [])
 
 -- ---- the claim
 
@@ -114,30 +115,30 @@ pub record Sheet : Type 0 where
   pub case1 : (wholeOf (bits 0x4029_0000_0000_0000) ≡ Whole.Value (pos 12)) × (wholeOf (bits 0x402b_0000_0000_0000) ≡ Whole.Value (pos 14))
       × (wholeOf (bits 0xbfe0_0000_0000_0000) ≡ Whole.Value (pos 0))
   -- heading 359.25 accepted; 359.5 gives 6
-  pub case2 : replies powerOn two ≡ done 0 ∷ done 6 ∷ []
+  pub case2 : replies powerOn two ≡ plain 0 ∷ plain 6 ∷ []
   -- altitude 56,000.5 accepted as 56,000; 56,001 gives 6
-  pub case3 : (replies powerOn three ≡ done 0 ∷ done 6 ∷ []) × (wholeOf (bits 0x40eb_5810_0000_0000) ≡ Whole.Value (pos 56000))
+  pub case3 : (replies powerOn three ≡ plain 0 ∷ plain 6 ∷ []) × (wholeOf (bits 0x40eb_5810_0000_0000) ≡ Whole.Value (pos 56000))
   -- counts 250 to 3: r 9; 3 to 250: -9; 0 to 128 and 128 to 0: -128
   pub case4 : (rotationOf 250 3 ≡ pos 9) × (rotationOf 3 250 ≡ negsuc 8) × (rotationOf 0 128 ≡ negsuc 127) × (rotationOf 128 0 ≡ negsuc 127)
       -- the same by turns of the heading knob: 354 and 9 is 3, 3 and -9 is 354; 0 and -128 is 232, 232 and -128 is 104
       × (map headingLeft four ≡ pos 354 ∷ pos 3 ∷ pos 354 ∷ []) × (map headingLeft fourHalf ≡ pos 232 ∷ pos 104 ∷ [])
   -- heading 355, r 9: 4. Vertical speed 48 in VS, r 9: 50
   pub case5 : (headingLeft heading355 ≡ pos 355) × (rotationOf 251 4 ≡ pos 9) × (headingLeft (heading355 ++ (turn 3 4 ∷ [])) ≡ pos 4)
-      × (laws speed48 left ≡ (1, 2)) × (referencesOf speed48 left .«vertical_speed» ≡ pos 48) × (rotationOf 0 9 ≡ pos 9)
-      × (referencesOf (speed48 ++ (turn 0 9 ∷ [])) left .«vertical_speed» ≡ pos 50)
+      × (laws speed48 onLeft ≡ (1, 2)) × (referencesOf speed48 onLeft .«vertical_speed» ≡ pos 48) × (rotationOf 0 9 ≡ pos 9)
+      × (referencesOf (speed48 ++ (turn 0 9 ∷ [])) onLeft .«vertical_speed» ≡ pos 50)
   -- power-on, word 16,384: event 14, laws 2 and 1, armed 4, lamps 129
-  pub case6 : (replies powerOn six ≡ told 0 14 ∷ []) × (laws six left ≡ (2, 1)) × (shownBy six left .armed ≡ 4) × (shownBy six left .lamps ≡ 129)
+  pub case6 : (replies powerOn six ≡ told 0 14 ∷ []) × (laws six onLeft ≡ (2, 1)) × (shownBy six onLeft .armed ≡ 4) × (shownBy six onLeft .lamps ≡ 129)
   -- power-on, word 16,400: event 4, laws 5 and 8, armed 4
-  pub case7 : (replies powerOn seven ≡ told 0 4 ∷ []) × (laws seven left ≡ (5, 8)) × (shownBy seven left .armed ≡ 4)
+  pub case7 : (replies powerOn seven ≡ told 0 4 ∷ []) × (laws seven onLeft ≡ (5, 8)) × (shownBy seven onLeft .armed ≡ 4)
   -- power-on, words 65,536, 1,024, 2,048: laws 1,1 armed 14; 4,1 armed 12; 4,7 armed 0. Then 131,072: 4,2 armed 4
-  pub case8 : (laws eight₁ left ≡ (1, 1)) × (shownBy eight₁ left .armed ≡ 14) × (laws eight₂ left ≡ (4, 1)) × (shownBy eight₂ left .armed ≡ 12)
-      × (laws eight₃ left ≡ (4, 7)) × (shownBy eight₃ left .armed ≡ 0) × (laws eight₄ left ≡ (4, 2)) × (shownBy eight₄ left .armed ≡ 4)
+  pub case8 : (laws eight₁ onLeft ≡ (1, 1)) × (shownBy eight₁ onLeft .armed ≡ 14) × (laws eight₂ onLeft ≡ (4, 1)) × (shownBy eight₂ onLeft .armed ≡ 12)
+      × (laws eight₃ onLeft ≡ (4, 7)) × (shownBy eight₃ onLeft .armed ≡ 0) × (laws eight₄ onLeft ≡ (4, 2)) × (shownBy eight₄ onLeft .armed ≡ 4)
   -- word 4, then 2,048, after the second word of case 8: laws 4,3, armed 12 both times
-  pub case9 : (laws nine₁ left ≡ (4, 3)) × (shownBy nine₁ left .armed ≡ 12) × (laws nine₂ left ≡ (4, 3)) × (shownBy nine₂ left .armed ≡ 12)
+  pub case9 : (laws nine₁ onLeft ≡ (4, 3)) × (shownBy nine₁ onLeft .armed ≡ 12) × (laws nine₂ onLeft ≡ (4, 3)) × (shownBy nine₂ onLeft .armed ≡ 12)
   -- word 0: accepted, 32. Word 1,048,576: 4
   pub case10 : (replies powerOn ten ≡ told 0 32 ∷ told 4 32 ∷ []) × (after powerOn ten ≡ powerOn)
   -- after case 6 right shows laws 0,0, lamps 128; send left, refresh right: 2,1, FD Off
-  pub case11 : (displayAfter six right .refusal ≡ 0) × (laws six right ≡ (0, 0)) × (shownBy six right .lamps ≡ 128)
-      × (laws eleven right ≡ (2, 1)) × (shownBy eleven right .fd ≡ false)
+  pub case11 : (displayAfter six onRight .refusal ≡ 0) × (laws six onRight ≡ (0, 0)) × (shownBy six onRight .lamps ≡ 128)
+      × (laws eleven onRight ≡ (2, 1)) × (shownBy eleven onRight .fd ≡ false)
   -- then word 32: right 1,1, left 2,1. Refresh left: 0,0, for right never sent
-  pub case12 : (laws twelve₁ right ≡ (1, 1)) × (laws twelve₁ left ≡ (2, 1)) × (displayAfter twelve₂ left .refusal ≡ 0) × (laws twelve₂ left ≡ (0, 0))
+  pub case12 : (laws twelve₁ onRight ≡ (1, 1)) × (laws twelve₁ onLeft ≡ (2, 1)) × (displayAfter twelve₂ onLeft .refusal ≡ 0) × (laws twelve₂ onLeft ≡ (0, 0))

@@ -1,37 +1,37 @@
 // The answer lines. Each function takes how many bytes of the output wait, and answers how many wait then.
+use crate::messages::put_error;
 use crate::output::put;
-use crate::output::put_each_signed;
 use crate::output::put_next;
 use crate::output::put_next_flag;
 use crate::output::put_next_float;
+use crate::output::put_next_signed;
+use crate::output::put_nth;
 use crate::output::put_text;
+use crate::panel::put_panel;
 use bench::Bench;
 use bench::Channel;
 use bench::Counts;
 use bench::Readings;
 use bench::References;
+use bench::Shared;
+use bench::parts::box_of;
+use bench::parts::reference_at;
 use calls::answers::Display;
+use calls::answers::EventAnswer;
 use guidance::Picked;
 use modes::ArmedLateral;
 use modes::ModeSet;
 use modes::Modes;
-use modes::Shared;
+use scripts::Command;
 
-// A command's name and its refusal.
-pub(crate) fn put_refusal(out: &mut [u8], waiting: usize, name: &[u8], refusal: u32) -> usize {
-    let at = put_text(out, waiting, name);
-    let end = put_next(out, at, refusal);
-    put(out, end, b'\n')
-}
-
-pub(crate) fn put_event(out: &mut [u8], waiting: usize, refusal: u32, event: u32) -> usize {
+fn put_event(out: &mut [u8], waiting: usize, refusal: u32, event: u32) -> usize {
     let at = put_text(out, waiting, b"event");
     let next = put_next(out, at, refusal);
     let end = put_next(out, next, event);
     put(out, end, b'\n')
 }
 
-pub(crate) fn put_pick(out: &mut [u8], waiting: usize, p: Picked) -> usize {
+fn put_pick(out: &mut [u8], waiting: usize, p: Picked) -> usize {
     let mut at = put_text(out, waiting, b"pick");
     at = put_next(out, at, p.refusal);
     at = put_next(out, at, p.lateral);
@@ -40,19 +40,16 @@ pub(crate) fn put_pick(out: &mut [u8], waiting: usize, p: Picked) -> usize {
 }
 
 fn put_references(out: &mut [u8], waiting: usize, r: References) -> usize {
-    let numbers = [
-        r.heading,
-        r.preselected,
-        r.held,
-        r.vertical_speed,
-        r.ias,
-        r.roll,
-        r.pitch,
-    ];
-    put_each_signed(out, waiting, &numbers)
+    let mut at = waiting;
+    let mut place = 0;
+    while place < 7 {
+        at = put_next_signed(out, at, reference_at(r, place));
+        place += 1;
+    }
+    at
 }
 
-pub(crate) fn put_display(out: &mut [u8], waiting: usize, refusal: u32, d: Display) -> usize {
+fn put_display(out: &mut [u8], waiting: usize, refusal: u32, d: Display) -> usize {
     let references = d.references;
     let mut at = put_text(out, waiting, b"display");
     at = put_next(out, at, refusal);
@@ -63,6 +60,13 @@ pub(crate) fn put_display(out: &mut [u8], waiting: usize, refusal: u32, d: Displ
     at = put_references(out, at, references);
     at = put_next(out, at, d.lamps);
     put(out, at, b'\n')
+}
+
+// What a side shows.
+fn put_side(out: &mut [u8], waiting: usize, b: Bench, side: u32) -> usize {
+    let a = calls::display(b, side);
+    let d = a.display;
+    put_display(out, waiting, a.refusal, d)
 }
 
 fn armed_number(a: ArmedLateral) -> u32 {
@@ -116,10 +120,10 @@ fn put_readings(out: &mut [u8], waiting: usize, r: Readings) -> usize {
 
 // The sides and their inboxes.
 fn put_boxes(out: &mut [u8], waiting: usize, b: Bench) -> usize {
-    let mut at = put_channel(out, waiting, bench::side_of(b, 0));
-    at = put_channel(out, at, bench::side_of(b, 1));
-    at = put_channel(out, at, bench::inbox_of(b, 0));
-    put_channel(out, at, bench::inbox_of(b, 1))
+    let mut at = put_channel(out, waiting, box_of(b, 0));
+    at = put_channel(out, at, box_of(b, 1));
+    at = put_channel(out, at, box_of(b, 2));
+    put_channel(out, at, box_of(b, 3))
 }
 
 fn put_shared(out: &mut [u8], waiting: usize, s: Shared) -> usize {
@@ -128,7 +132,7 @@ fn put_shared(out: &mut [u8], waiting: usize, s: Shared) -> usize {
     put_next_flag(out, at, s.overspeed)
 }
 
-pub(crate) fn put_bench(out: &mut [u8], waiting: usize, b: Bench) -> usize {
+fn put_bench(out: &mut [u8], waiting: usize, b: Bench) -> usize {
     let shared = b.shared;
     let counts = b.counts;
     let readings = b.readings;
@@ -138,4 +142,44 @@ pub(crate) fn put_bench(out: &mut [u8], waiting: usize, b: Bench) -> usize {
     at = put_readings(out, at, readings);
     at = put_boxes(out, at, b);
     put(out, at, b'\n')
+}
+
+// Which name a command has whose answer is its refusal.
+fn name_of(c: Command) -> usize {
+    match c {
+        Command::Send(_) => 0,
+        Command::Refresh(_) => 1,
+        Command::Turn(_, _) => 2,
+        Command::Reading(_) => 3,
+        Command::PowerOn => 4,
+        _ => 5,
+    }
+}
+
+fn put_refusal(out: &mut [u8], waiting: usize, c: Command, refusal: u32) -> usize {
+    let names = b"send refresh turn reading power-on damage";
+    let at = put_nth(out, waiting, names, name_of(c), 0);
+    let end = put_next(out, at, refusal);
+    put(out, end, b'\n')
+}
+
+// The answer to a command of a line.
+pub(crate) fn put_answer(
+    out: &mut [u8],
+    waiting: usize,
+    line: u64,
+    c: Command,
+    a: EventAnswer,
+) -> usize {
+    let b = a.bench;
+    match c {
+        Command::Blank => waiting,
+        Command::Wrong(why) => put_error(out, waiting, line, why),
+        Command::Event(_) => put_event(out, waiting, a.refusal, a.event),
+        Command::Display(side) => put_side(out, waiting, b, side),
+        Command::Pick(side) => put_pick(out, waiting, guidance::pick(b, side)),
+        Command::Bench => put_bench(out, waiting, b),
+        Command::Panel => put_panel(out, waiting, b),
+        _ => put_refusal(out, waiting, c, a.refusal),
+    }
 }

@@ -1,27 +1,16 @@
 // The answer to a line that is no command.
 use crate::output::put;
+use crate::output::put_nth;
 use crate::output::put_number;
 use crate::output::put_text;
 
+// What is wrong with a line, by the numbers of the constants of `scripts`, from 1.
 fn put_reason(out: &mut [u8], waiting: usize, wrong: u32) -> usize {
-    match wrong {
-        scripts::TOO_LONG => put_text(out, waiting, b"the line has more than 255 bytes"),
-        scripts::NO_COMMAND => put_text(out, waiting, b"no such command"),
-        scripts::TOO_FEW => put_text(out, waiting, b"a word is missing"),
-        scripts::TOO_MANY => put_text(out, waiting, b"there is a word too many"),
-        scripts::NO_NUMBER => put_text(out, waiting, b"not a number from 0 to 4294967295"),
-        scripts::NO_BYTE => put_text(out, waiting, b"not a number from 0 to 255"),
-        scripts::NO_KIND => put_text(out, waiting, b"no such kind of reading"),
-        scripts::NO_VALUE => put_text(out, waiting, b"not a value of a reading"),
-        scripts::NO_BOX => put_text(out, waiting, b"no such part of the bench"),
-        scripts::NO_REFERENCE => put_text(out, waiting, b"neither a reference nor a set"),
-        scripts::NO_SIGNED => put_text(
-            out,
-            waiting,
-            b"not a number from -2147483648 to 2147483647",
-        ),
-        _ => put_text(out, waiting, b"no such mode set"),
-    }
+    let reasons = b"- the_line_has_more_than_255_bytes no_such_command a_word_is_missing \
+        there_is_a_word_too_many not_a_number_from_0_to_4294967295 not_a_number_from_0_to_255 \
+        no_such_kind_of_reading not_a_value_of_a_reading no_such_part_of_the_bench \
+        neither_a_reference_nor_a_set not_a_number_from_-2147483648_to_2147483647 no_such_mode_set";
+    put_nth(out, waiting, reasons, wrong as usize, 0)
 }
 
 // 'error', the line's number, and what is wrong.

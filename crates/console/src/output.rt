@@ -22,11 +22,16 @@ pub(crate) fn put(out: &mut [u8], waiting: usize, byte: u8) -> usize {
     1
 }
 
+// A byte of a text: '_' stands for a space, since spaces part the labels of a text of labels.
+fn printed(byte: u8) -> u8 {
+    if byte == b'_' { b' ' } else { byte }
+}
+
 pub(crate) fn put_text(out: &mut [u8], waiting: usize, text: &[u8]) -> usize {
     let mut at = waiting;
     let mut i = 0;
     while i < text.len() {
-        at = put(out, at, text[i]);
+        at = put(out, at, printed(text[i]));
         i += 1;
     }
     at
@@ -39,6 +44,22 @@ pub(crate) fn put_spaces(out: &mut [u8], waiting: usize, count: usize) -> usize 
     while i < count {
         at = put(out, at, b' ');
         i += 1;
+    }
+    at
+}
+
+// The label with this number, from 0, of a text of labels, and as many spaces as fill the width.
+pub(crate) fn put_nth(
+    out: &mut [u8],
+    waiting: usize,
+    labels: &[u8],
+    n: usize,
+    width: usize,
+) -> usize {
+    let label = words::word(labels, n);
+    let at = put_text(out, waiting, label);
+    if label.len() < width {
+        return put_spaces(out, at, width - label.len());
     }
     at
 }
@@ -74,17 +95,6 @@ pub(crate) fn put_signed(out: &mut [u8], waiting: usize, x: i32) -> usize {
 pub(crate) fn put_next_signed(out: &mut [u8], waiting: usize, x: i32) -> usize {
     let at = put(out, waiting, b' ');
     put_signed(out, at, x)
-}
-
-// A space and such a number, for each of some.
-pub(crate) fn put_each_signed(out: &mut [u8], waiting: usize, numbers: &[i32]) -> usize {
-    let mut at = waiting;
-    let mut i = 0;
-    while i < numbers.len() {
-        at = put_next_signed(out, at, numbers[i]);
-        i += 1;
-    }
-    at
 }
 
 // A space and a flag, 0 or 1.

@@ -2,37 +2,13 @@
 // below them stands the overspeed flag, which no display shows.
 ghost use Prim.Native.Nat.{_<_};
 use crate::output::put;
+use crate::output::put_nth;
 use crate::output::put_signed;
 use crate::output::put_spaces;
 use crate::output::put_text;
 use bench::Bench;
-use bench::References;
+use bench::parts::reference_at;
 use calls::answers::Display;
-
-// A byte of a label: '_' stands for a space.
-fn shown(byte: u8) -> u8 {
-    if byte == b'_' { b' ' } else { byte }
-}
-
-fn put_label(out: &mut [u8], waiting: usize, label: &[u8]) -> usize {
-    let mut at = waiting;
-    let mut i = 0;
-    while i < label.len() {
-        at = put(out, at, shown(label[i]));
-        i += 1;
-    }
-    at
-}
-
-// The label with this number, from 0, of a text of labels, and as many spaces as fill the width.
-fn put_nth(out: &mut [u8], waiting: usize, labels: &[u8], n: usize, width: usize) -> usize {
-    let label = words::word(labels, n);
-    let at = put_label(out, waiting, label);
-    if label.len() < width {
-        return put_spaces(out, at, width - label.len());
-    }
-    at
-}
 
 // One of two texts.
 fn put_either(out: &mut [u8], waiting: usize, first: bool, yes: &[u8], no: &[u8]) -> usize {
@@ -71,29 +47,16 @@ fn put_right(out: &mut [u8], waiting: usize, x: i32) -> usize {
     put_signed(out, at, x)
 }
 
-// A reference with its unit, by its place in a display.
-fn put_reference(out: &mut [u8], waiting: usize, n: usize, x: i32) -> usize {
+// A reference with its unit, by its place.
+fn put_reference(out: &mut [u8], waiting: usize, place: u32, x: i32) -> usize {
     let names =
         b"heading preselected_altitude held_altitude vertical_speed indicated_airspeed roll pitch";
     let units = b"deg ft ft x100_fpm kt deg deg";
     let mut at = put(out, waiting, b' ');
-    at = put_nth(out, at, names, n, 20);
+    at = put_nth(out, at, names, place as usize, 20);
     at = put_right(out, at, x);
     at = put(out, at, b' ');
-    put_nth(out, at, units, n, 9)
-}
-
-// The reference at a place in a display.
-fn nth_reference(r: References, n: usize) -> i32 {
-    match n {
-        0 => r.heading,
-        1 => r.preselected,
-        2 => r.held,
-        3 => r.vertical_speed,
-        4 => r.ias,
-        5 => r.roll,
-        _ => r.pitch,
-    }
+    put_nth(out, at, units, place as usize, 9)
 }
 
 // Engaged and armed modes of an axis.
@@ -116,24 +79,41 @@ fn put_vertical(out: &mut [u8], waiting: usize, law: u32, armed: u32) -> usize {
     )
 }
 
-// Lit lamps stand in brackets and capitals.
-fn put_lateral_lamps(out: &mut [u8], waiting: usize, lamps: u32) -> usize {
-    let mut at = put_either(out, waiting, has(lamps, 1), b"[HDG]", b" hdg ");
-    at = put_either(out, at, has(lamps, 2), b"[NAV]", b" nav ");
-    put_either(out, at, has(lamps, 4), b"[APPR]", b" appr ")
+// A lamp by its number and its part of the sum. Lit lamps stand in brackets and capitals.
+fn put_lamp(out: &mut [u8], waiting: usize, lamps: u32, n: usize, part: u32) -> usize
+    requires { ⌜ 0 < part ⌝ }
+{
+    if has(lamps, part) {
+        return put_nth(
+            out,
+            waiting,
+            b"[HDG] [NAV] [APPR] [VS] [FLC] [ALT] [AP]",
+            n,
+            0,
+        );
+    }
+    put_nth(
+        out,
+        waiting,
+        b"_hdg_ _nav_ _appr_ _vs_ _flc_ _alt_ _ap_",
+        n,
+        0,
+    )
 }
 
-fn put_vertical_lamps(out: &mut [u8], waiting: usize, lamps: u32) -> usize {
-    let mut at = put_either(out, waiting, has(lamps, 8), b"[VS]", b" vs ");
-    at = put_either(out, at, has(lamps, 16), b"[FLC]", b" flc ");
-    put_either(out, at, has(lamps, 32), b"[ALT]", b" alt ")
+fn put_lateral_lamps(out: &mut [u8], waiting: usize, lamps: u32) -> usize {
+    let mut at = put(out, waiting, b' ');
+    at = put_lamp(out, at, lamps, 0, 1);
+    at = put_lamp(out, at, lamps, 1, 2);
+    put_lamp(out, at, lamps, 2, 4)
 }
 
 fn put_lamps(out: &mut [u8], waiting: usize, lamps: u32) -> usize {
-    let mut at = put(out, waiting, b' ');
-    at = put_lateral_lamps(out, at, lamps);
-    at = put_vertical_lamps(out, at, lamps);
-    at = put_either(out, at, has(lamps, 64), b"[AP]", b" ap ");
+    let mut at = put_lateral_lamps(out, waiting, lamps);
+    at = put_lamp(out, at, lamps, 3, 8);
+    at = put_lamp(out, at, lamps, 4, 16);
+    at = put_lamp(out, at, lamps, 5, 32);
+    at = put_lamp(out, at, lamps, 6, 64);
     put_text(out, at, b"  ")
 }
 
@@ -160,7 +140,7 @@ fn put_role(out: &mut [u8], waiting: usize, refusal: u32, flying: bool) -> usize
 }
 
 // Switches, lamps and modes: the first five rows under the title, in 37 columns.
-fn put_modes(out: &mut [u8], waiting: usize, row: usize, d: Display) -> usize {
+fn put_modes(out: &mut [u8], waiting: usize, row: u32, d: Display) -> usize {
     match row {
         0 => put_switches(out, waiting, d.fd, has(d.lamps, 64)),
         1 => put_lamps(out, waiting, d.lamps),
@@ -171,15 +151,15 @@ fn put_modes(out: &mut [u8], waiting: usize, row: usize, d: Display) -> usize {
 }
 
 // What stands in a row: the references follow on the modes.
-fn put_inside(out: &mut [u8], waiting: usize, row: usize, d: Display) -> usize {
+fn put_inside(out: &mut [u8], waiting: usize, row: u32, d: Display) -> usize {
     if row < 5 {
         return put_modes(out, waiting, row, d);
     }
     let references = d.references;
-    put_reference(out, waiting, row - 5, nth_reference(references, row - 5))
+    put_reference(out, waiting, row - 5, reference_at(references, row - 5))
 }
 
-fn put_row(out: &mut [u8], waiting: usize, row: usize, d: Display) -> usize {
+fn put_row(out: &mut [u8], waiting: usize, row: u32, d: Display) -> usize {
     let mut at = put(out, waiting, b'|');
     at = put_inside(out, at, row, d);
     put(out, at, b'|')
@@ -219,11 +199,15 @@ fn put_panels(
     refusal: u32,
     left: Display,
     right: Display,
+    overspeed: bool,
 ) -> usize {
-    let mut at = put_border(out, waiting);
+    let mut at = put_text(out, waiting, b"panel\n");
+    at = put_border(out, at);
     at = put_titles(out, at, refusal, left.lamps);
     at = put_rows(out, at, left, right);
-    put_border(out, at)
+    at = put_border(out, at);
+    at = put_either(out, at, overspeed, b"  OVERSPEED\n", b"");
+    put_text(out, at, b"end\n")
 }
 
 pub(crate) fn put_panel(out: &mut [u8], waiting: usize, b: Bench) -> usize {
@@ -232,8 +216,12 @@ pub(crate) fn put_panel(out: &mut [u8], waiting: usize, b: Bench) -> usize {
     let right_answer = calls::display(b, 1);
     let left = left_answer.display;
     let right = right_answer.display;
-    let mut at = put_text(out, waiting, b"panel\n");
-    at = put_panels(out, at, left_answer.refusal, left, right);
-    at = put_either(out, at, shared.overspeed, b"  OVERSPEED\n", b"");
-    put_text(out, at, b"end\n")
+    put_panels(
+        out,
+        waiting,
+        left_answer.refusal,
+        left,
+        right,
+        shared.overspeed,
+    )
 }

@@ -2,14 +2,12 @@
 // flight directors.
 use modes::Event;
 use modes::ModeSet;
-use modes::Shared;
 use modes::numbers::lateral_law;
 use modes::numbers::vertical_law;
 use modes::sets::selects_lappr;
 use modes::sets::selects_nav;
 ghost use mathlib.Core.Path.{_≡_};
-ghost use Rattle.modes.specs.Events.{eventAt, lineOf, otherSide, sharedAfter};
-ghost use Rattle.events.specs.Tables.{lacksLateral, lacksVertical, withPf, withAp, withOverspeed};
+ghost use Rattle.modes.specs.Events.{eventAt, lineOf};
 
 // The event of a number.
 pub fn event_at(number: u32) -> Event
@@ -40,66 +38,36 @@ pub fn event_at(number: u32) -> Event
     }
 }
 
-// The other side of two.
-pub fn other_side(side: u32) -> u32
-    ensures { λ res. ⌜ res ≡ otherSide side ⌝ }
+// Whether AP is engaged after an event, by whether it was before.
+pub fn ap_after(e: Event, engaged: bool) -> bool
+    ensures { λ res. ⌜ res ≡ lineOf e .ap engaged ⌝ }
 {
-    match side {
-        0 => 1,
-        _ => 0,
+    match e {
+        Event::ApDisconnect => false,
+        Event::ApSwitch => !engaged,
+        Event::GoAround => false,
+        _ => engaged,
     }
 }
 
-fn with_pf(s: Shared, pf: u32) -> Shared
-    ensures { λ res. ⌜ res ≡ withPf pf s ⌝ }
-{
-    let mut next = s;
-    next.pf = pf;
-    next
-}
-
-fn with_ap(s: Shared, ap: bool) -> Shared
-    ensures { λ res. ⌜ res ≡ withAp ap s ⌝ }
-{
-    let mut next = s;
-    next.ap = ap;
-    next
-}
-
-fn with_overspeed(s: Shared, overspeed: bool) -> Shared
-    ensures { λ res. ⌜ res ≡ withOverspeed overspeed s ⌝ }
-{
-    let mut next = s;
-    next.overspeed = overspeed;
-    next
-}
-
-// The first step, but for the flight directors.
-pub fn shared_after(e: Event, s: Shared) -> Shared
-    ensures { λ res. ⌜ res ≡ sharedAfter e s ⌝ }
+// The overspeed flag after an event.
+pub fn overspeed_after(e: Event, flag: bool) -> bool
+    ensures { λ res. ⌜ res ≡ lineOf e .flag flag ⌝ }
 {
     match e {
-        Event::ApDisconnect => with_ap(s, false),
-        Event::ApSwitch => with_ap(s, !s.ap),
-        Event::OverspeedBegins => with_overspeed(s, true),
-        Event::OverspeedEnds => with_overspeed(s, false),
-        Event::GoAround => with_ap(s, false),
-        Event::Transfer => with_pf(s, other_side(s.pf)),
-        Event::FdSwitchLeft => s,
-        Event::FdSwitchRight => s,
-        Event::SourceChanged => s,
-        Event::NavCaptured => s,
-        Event::LapprCaptured => s,
-        Event::VapprCaptured => s,
-        Event::AltselCaptured => s,
-        Event::AltselOnTrack => s,
-        Event::HdgSwitch => s,
-        Event::NavSwitch => s,
-        Event::ApprSwitch => s,
-        Event::VsSwitch => s,
-        Event::FlcSwitch => s,
-        Event::AltSwitch => s,
-        Event::NoEvent => s,
+        Event::OverspeedBegins => true,
+        Event::OverspeedEnds => false,
+        _ => flag,
+    }
+}
+
+// Whether PF moves to the other side.
+pub fn transfers(e: Event) -> bool
+    ensures { λ res. ⌜ res ≡ lineOf e .transfers ⌝ }
+{
+    match e {
+        Event::Transfer => true,
+        _ => false,
     }
 }
 
@@ -108,42 +76,10 @@ pub fn fd_pressed(e: Event, side: u32) -> bool
     ensures { λ res. ⌜ res ≡ lineOf e .pressed side ⌝ }
 {
     match e {
-        Event::ApDisconnect => false,
-        Event::ApSwitch => false,
-        Event::OverspeedBegins => false,
-        Event::OverspeedEnds => false,
-        Event::GoAround => false,
-        Event::Transfer => false,
         Event::FdSwitchLeft => side == 0,
         Event::FdSwitchRight => side == 1,
-        Event::SourceChanged => false,
-        Event::NavCaptured => false,
-        Event::LapprCaptured => false,
-        Event::VapprCaptured => false,
-        Event::AltselCaptured => false,
-        Event::AltselOnTrack => false,
-        Event::HdgSwitch => false,
-        Event::NavSwitch => false,
-        Event::ApprSwitch => false,
-        Event::VsSwitch => false,
-        Event::FlcSwitch => false,
-        Event::AltSwitch => false,
-        Event::NoEvent => false,
+        _ => false,
     }
-}
-
-fn lacks_lateral(s: ModeSet, law: u32) -> bool
-    ensures { λ res. ⌜ res ≡ lacksLateral s law ⌝ }
-{
-    let shown = lateral_law(s);
-    shown != law
-}
-
-fn lacks_vertical(s: ModeSet, law: u32) -> bool
-    ensures { λ res. ⌜ res ≡ lacksVertical s law ⌝ }
-{
-    let shown = vertical_law(s);
-    shown != law
 }
 
 // Whether the active side's FD is set On: by AP, the flag and that side's set as handed in.
@@ -151,26 +87,15 @@ pub fn asks_fd(e: Event, ap: bool, flag: bool, s: ModeSet) -> bool
     ensures { λ res. ⌜ res ≡ lineOf e .asksFd ap flag s ⌝ }
 {
     match e {
-        Event::ApDisconnect => false,
         Event::ApSwitch => !ap,
         Event::OverspeedBegins => !flag,
-        Event::OverspeedEnds => false,
         Event::GoAround => true,
-        Event::Transfer => false,
-        Event::FdSwitchLeft => false,
-        Event::FdSwitchRight => false,
-        Event::SourceChanged => false,
-        Event::NavCaptured => false,
-        Event::LapprCaptured => false,
-        Event::VapprCaptured => false,
-        Event::AltselCaptured => false,
-        Event::AltselOnTrack => false,
-        Event::HdgSwitch => lacks_lateral(s, 2),
+        Event::HdgSwitch => lateral_law(s) != 2,
         Event::NavSwitch => !selects_nav(s),
         Event::ApprSwitch => !selects_lappr(s),
-        Event::VsSwitch => lacks_vertical(s, 2),
-        Event::FlcSwitch => lacks_vertical(s, 3),
-        Event::AltSwitch => lacks_vertical(s, 4),
-        Event::NoEvent => false,
+        Event::VsSwitch => vertical_law(s) != 2,
+        Event::FlcSwitch => vertical_law(s) != 3,
+        Event::AltSwitch => vertical_law(s) != 4,
+        _ => false,
     }
 }

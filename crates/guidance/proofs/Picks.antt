@@ -7,13 +7,15 @@ use native.Mathlib.Omega.{arith}
 use borrow.Author.Tests.{lt-leb, eqb-true}
 use lib.Dec.{eqb}
 use Rattle.bench.specs.declared.Bench.{Bench}
+use Rattle.bench.specs.Holds.{powerOn}
+use Rattle.bench.specs.Sound.{sound}
 use Rattle.calls.specs.declared.answers.Display.{Display}
 use Rattle.calls.specs.Displays.{shown, blank}
-use Rattle.calls.specs.Calls.{refused, sideRefusal, displayCall}
+use Rattle.calls.specs.Calls.{Call, display, refusal, displayAnswer}
 use Rattle.soundness.proofs.Kept.Parts.{by-cond}
-use Rattle.claim.specs.Lists.{Call}
 use Rattle.claim.specs.Claim.{Keeps, modesOn}
-use Rattle.claim.proofs.Claimed.{sound-after, claim}
+use Rattle.soundness.proofs.Kept.{power-on-sound}
+use Rattle.claim.proofs.Claimed.{sound-from, claim-from}
 use Rattle.guidance.specs.Picker.{pickedOf, NoLaws, Picks, Guides, RefusedPick}
 
 -- laws that keep the claim's rules of a side with modes on or off, from an accepted display
@@ -41,18 +43,23 @@ kept-picks false d refusal h k =
 -- ---- a refused display, of any bench
 
 pub refused-pick : (b : Bench) (s : ℕ) → RefusedPick b s
-unfolding pickedOf displayCall
+unfolding pickedOf displayAnswer
 refused-pick b s n =
-    let r = refused b (sideRefusal s) in
+    let r = refusal b (display s) in
     by-cond (λ (d : Display). NoLaws (record { refusal = r; lateral = d .lateral; vertical = d .vertical })) (eqb r 0) (shown b s) blank
     (λ e. absurd (n (eqb-true r 0 e)))
     (λ e. record { lateral = refl; vertical = refl })
 
 -- ---- any list of calls
 
-pub guides : (cs : List Call) → Guides cs
-unfolding pickedOf displayCall
-guides cs = record {
-  picks = λ s hs. kept-picks (modesOn cs s) _ _ (claim cs .shown s hs) (claim cs .keeps s hs);
-  no-side = λ s h. rw (sound-after cs, lt-leb s 1 h);
-}
+pub guides-from : (start : Bench) → sound start ≡ true → (cs : List Call) → Guides start cs
+unfolding pickedOf displayAnswer refusal
+guides-from start h cs =
+    let k = claim-from start h cs in
+    record {
+      picks = λ s hs. kept-picks (modesOn start cs s) _ _ (k .shown s hs) (k .keeps s hs);
+      no-side = λ s l. rw (sound-from start h cs, lt-leb s 1 l);
+    }
+
+pub guides : (cs : List Call) → Guides powerOn cs
+guides cs = guides-from powerOn power-on-sound cs

@@ -6,18 +6,17 @@ use mathlib.Core.Bool.{Bool, true, false}
 use mathlib.Core.List.{List}
 use Prim.Native.Nat.{ℕ, _≤_, _<_}
 use Rattle.bench.specs.declared.Bench.{Bench}
-use Rattle.bench.specs.Holds.{powerOn}
-use Rattle.calls.specs.Calls.{displayCall}
-use Rattle.claim.specs.Lists.{Call, after}
+use Rattle.calls.specs.Calls.{Call, displayAnswer}
+use Rattle.claim.specs.Lists.{after}
 use Rattle.claim.specs.Claim.{modesOn}
 use Rattle.guidance.specs.declared.Picked.{Picked}
 
 -- the refusal and the two law numbers of the display. A refused display is all zeros, so that its laws are 0 and 0
 unfoldable pub pickedOf : Bench → ℕ → Picked
 pickedOf b s = record {
-  refusal = displayCall b s .refusal;
-  lateral = displayCall b s .display .lateral;
-  vertical = displayCall b s .display .vertical;
+  refusal = displayAnswer b s .refusal;
+  lateral = displayAnswer b s .display .lateral;
+  vertical = displayAnswer b s .display .vertical;
 }
 
 -- both law numbers are 0
@@ -37,12 +36,13 @@ pub record Picks (on : Bool) (p : Picked) : Type 0 where
   -- and of a side that is on neither is
   pub flown : on ≡ true → (1 ≤ p .lateral) × (1 ≤ p .vertical)
 
--- what holds of the picker after a list of calls from power-on, in any order, with any arguments and refused calls included
-pub record Guides (cs : List Call) : Type 0 where
+-- what holds of the picker after a list of calls from a start, in any order, with any arguments and refused calls included. It is proved of power-on and of every
+-- sound bench
+pub record Guides (start : Bench) (cs : List Call) : Type 0 where
   -- of either side it names laws that the aircraft model has
-  pub picks : (s : ℕ) → s ≤ 1 → Picks (modesOn cs s) (pickedOf (after powerOn cs) s)
+  pub picks : (s : ℕ) → s ≤ 1 → Picks (modesOn start cs s) (pickedOf (after start cs) s)
   -- a side above 1 is refused with 2
-  pub no-side : (s : ℕ) → 1 < s → pickedOf (after powerOn cs) s ≡ record { refusal = 2; lateral = 0; vertical = 0 }
+  pub no-side : (s : ℕ) → 1 < s → pickedOf (after start cs) s ≡ record { refusal = 2; lateral = 0; vertical = 0 }
 
 -- of any bench and side: the laws are 0 and 0 with the display's refusal. Document 01, 'Who can be turned away'
 abbrev pub RefusedPick : Bench → ℕ → Type 0

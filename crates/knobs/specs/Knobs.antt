@@ -1,110 +1,84 @@
--- Knobs. Document 01, 'Sends, refreshes, knobs'. Each rule is written for a side that is given.
-use mathlib.Core.Bool.{Bool, true, false, _&&_, _||_, cond}
+-- Knobs. Document 01, 'Sends, refreshes, knobs'. Each rule is written for a side that is given; `acts` of bench/specs/Sides.antt says which sides turn.
+use mathlib.Core.Bool.{Bool, _&&_, _||_, cond}
 use Prim.Native.Nat.{ℕ}
 use lib.Dec.{eqb}
 use lib.IntN.{ℤ, pos, _+ℤ_, _*ℤ_}
 use lib.Signed.{ltZ}
 use Rattle.rotation.specs.Rotation.{rotationOf, modOf}
-use Rattle.modes.specs.declared.ModeSet.{ModeSet}
-use Rattle.modes.specs.Sets.{PITCH, VS, ALTSEL, VAPPR, engage, engagedIn, inOn}
+use Rattle.modes.specs.Sets.{PITCH, VS, ALTSEL, VAPPR, engage, engagedIn, inOn, isOff}
 use Rattle.bench.specs.declared.References.{References}
-use Rattle.bench.specs.declared.Counts.{Counts}
 use Rattle.bench.specs.declared.Bench.{Bench}
-use Rattle.bench.specs.Ranges.{clamped, altitudes, verticalSpeeds, speeds, pitches}
-use Rattle.bench.specs.Holds.{side, withSide}
+use Rattle.bench.specs.Parts.{withCounts, withBox, withReferences, reference, withReference, atHeading, atPreselected, atVerticalSpeed, atIas, atPitch, countOf, withCount}
+use Rattle.bench.specs.Ranges.{clamped, referenceRange}
+use Rattle.bench.specs.Sides.{side, onActing}
 use Rattle.steps.specs.Entry.{settled}
 
--- ---- counts: knob 0 is the wheel, 1 altitude, 2 speed, 3 heading
+-- ---- parts of the rules
 
-unfoldable pub countOf : ℕ → Counts → ℕ
-countOf knob c = cond (eqb knob 0) (c .wheel) (cond (eqb knob 1) (c .altitude) (cond (eqb knob 2) (c .speed) (c .heading)))
-
-unfoldable pub withCount : ℕ → ℕ → Counts → Counts
-withCount knob n c =
-    cond (eqb knob 0) (record { wheel = n; altitude = c .altitude; speed = c .speed; heading = c .heading })
-    (cond (eqb knob 1) (record { wheel = c .wheel; altitude = n; speed = c .speed; heading = c .heading })
-    (cond (eqb knob 2) (record { wheel = c .wheel; altitude = c .altitude; speed = n; heading = c .heading })
-    (record { wheel = c .wheel; altitude = c .altitude; speed = c .speed; heading = n })))
-
-unfoldable pub counted : ℕ → ℕ → Bench → Bench
-counted knob n b = record {
-  shared = b .shared;
-  counts = withCount knob n (b .counts);
-  readings = b .readings;
-  left = b .left;
-  right = b .right;
-  «left_inbox» = b .«left_inbox»;
-  «right_inbox» = b .«right_inbox»;
-}
-
--- ---- references, with one of them changed
-
-abbrev pub withHeading : ℤ → References → References
-withHeading x r = record { heading = x; preselected = r .preselected; held = r .held; «vertical_speed» = r .«vertical_speed»; ias = r .ias; roll = r .roll; pitch = r .pitch }
-
-abbrev pub withPreselected : ℤ → References → References
-withPreselected x r = record { heading = r .heading; preselected = x; held = r .held; «vertical_speed» = r .«vertical_speed»; ias = r .ias; roll = r .roll; pitch = r .pitch }
-
-abbrev pub withVerticalSpeed : ℤ → References → References
-withVerticalSpeed x r = record { heading = r .heading; preselected = r .preselected; held = r .held; «vertical_speed» = x; ias = r .ias; roll = r .roll; pitch = r .pitch }
-
-abbrev pub withIas : ℤ → References → References
-withIas x r = record { heading = r .heading; preselected = r .preselected; held = r .held; «vertical_speed» = r .«vertical_speed»; ias = x; roll = r .roll; pitch = r .pitch }
-
-abbrev pub withPitch : ℤ → References → References
-withPitch x r = record { heading = r .heading; preselected = r .preselected; held = r .held; «vertical_speed» = r .«vertical_speed»; ias = r .ias; roll = r .roll; pitch = x }
+-- an amount is added to the reference at a place, clamped to its range
+unfoldable pub moved : ℕ → ℤ → References → References
+moved place amount r = withReference place (clamped (referenceRange place) (reference place r +ℤ amount)) r
 
 -- side s has other references
 unfoldable pub referred : References → ℕ → Bench → Bench
-referred r s b = withSide s (record { fd = side b s .fd; set = side b s .set; references = r }) b
+referred r s b = withBox s (withReferences r (side b s)) b
 
--- ---- what a rotation r of each knob does on side s
+unfoldable pub referenceMoved : ℕ → ℤ → ℕ → Bench → Bench
+referenceMoved place amount s b = referred (moved place amount (side b s .references)) s b
 
 -- PITCH engages on side s, with entry
 unfoldable pub pitched : ℕ → Bench → Bench
 pitched s b = settled (inOn (engage PITCH) (side b s .set)) s b
 
-abbrev pub isOff : ModeSet → Bool
-isOff ModeSet.Off = true
-isOff (ModeSet.On m) = false
+-- ---- what a rotation r of each knob does on side s
 
--- the wheel: in VS and PITCH it adds r to that reference; in VAPPR or Off nothing; else PITCH engages and only entry sets the reference
+-- the wheel moves the reference of VS and of PITCH and does nothing in VAPPR and Off; in another mode PITCH engages, and only entry sets its reference
 unfoldable pub wheelTurned : ℤ → ℕ → Bench → Bench
 wheelTurned r s b =
-    cond (engagedIn VS (side b s .set)) (referred (withVerticalSpeed (clamped verticalSpeeds (side b s .references .«vertical_speed» +ℤ r)) (side b s .references)) s b)
-    (cond (engagedIn PITCH (side b s .set)) (referred (withPitch (clamped pitches (side b s .references .pitch +ℤ r)) (side b s .references)) s b)
+    cond (engagedIn VS (side b s .set)) (referenceMoved atVerticalSpeed r s b)
+    (cond (engagedIn PITCH (side b s .set)) (referenceMoved atPitch r s b)
     (cond (engagedIn VAPPR (side b s .set) || isOff (side b s .set)) b (pitched s b)))
+
+-- a click of the altitude knob is 100 feet
+abbrev pub altitudeMoved : ℤ → References → References
+altitudeMoved r x = moved atPreselected (r *ℤ pos 100) x
 
 abbrev pub differ : ℤ → ℤ → Bool
 differ x y = ltZ x y || ltZ y x
 
-abbrev pub preselection : ℤ → ℕ → Bench → ℤ
-preselection r s b = clamped altitudes (side b s .references .preselected +ℤ (r *ℤ pos 100))
+-- whether the turn changes the preselected altitude
+abbrev pub preselectionChanges : ℤ → References → Bool
+preselectionChanges r x = differ (reference atPreselected x) (reference atPreselected (altitudeMoved r x))
 
--- altitude adds 100 times r; if the preselected altitude changed and ALTSEL is engaged, PITCH engages (000: target changed)
+-- with ALTSEL engaged, a preselected altitude that changes engages PITCH
 unfoldable pub altitudeTurned : ℤ → ℕ → Bench → Bench
 altitudeTurned r s b =
-    cond (differ (side b s .references .preselected) (preselection r s b) && engagedIn ALTSEL (side b s .set))
-    (pitched s (referred (withPreselected (preselection r s b) (side b s .references)) s b))
-    (referred (withPreselected (preselection r s b) (side b s .references)) s b)
+    cond (engagedIn ALTSEL (side b s .set) && preselectionChanges r (side b s .references))
+    (pitched s (referred (altitudeMoved r (side b s .references)) s b))
+    (referred (altitudeMoved r (side b s .references)) s b)
 
--- speed adds r
-unfoldable pub speedTurned : ℤ → ℕ → Bench → Bench
-speedTurned r s b = referred (withIas (clamped speeds (side b s .references .ias +ℤ r)) (side b s .references)) s b
+-- the heading goes round: modulo 360
+unfoldable pub headingMoved : ℤ → References → References
+headingMoved r x = withReference atHeading (pos (modOf (reference atHeading x +ℤ r) 360)) x
 
--- heading adds r modulo 360
 unfoldable pub headingTurned : ℤ → ℕ → Bench → Bench
-headingTurned r s b = referred (withHeading (pos (modOf (side b s .references .heading +ℤ r) 360)) (side b s .references)) s b
+headingTurned r s b = referred (headingMoved r (side b s .references)) s b
 
+-- knob 0 is the wheel, 1 altitude, 2 speed, 3 heading
 unfoldable pub knobTurned : ℕ → ℤ → ℕ → Bench → Bench
 knobTurned knob r s b =
     cond (eqb knob 0) (wheelTurned r s b)
     (cond (eqb knob 1) (altitudeTurned r s b)
-    (cond (eqb knob 2) (speedTurned r s b)
+    (cond (eqb knob 2) (referenceMoved atIas r s b)
     (headingTurned r s b)))
 
--- the count is stored; r = 0, where the count is the same, does nothing else; the active side turns
+-- ---- the turn
+
+unfoldable pub counted : ℕ → ℕ → Bench → Bench
+counted knob n b = withCounts (withCount knob n (b .counts)) b
+
+-- the count is stored, and the same count again, a rotation of 0, does nothing else
 unfoldable pub turned : ℕ → ℕ → Bench → Bench
 turned knob n b =
     cond (eqb n (countOf knob (b .counts))) (counted knob n b)
-    (knobTurned knob (rotationOf (countOf knob (b .counts)) n) (b .shared .pf) (counted knob n b))
+    (onActing (knobTurned knob (rotationOf (countOf knob (b .counts)) n)) (counted knob n b))

@@ -1,2 +1,1 @@
 pub mod Knobs
-pub mod Tables

@@ -1,75 +1,56 @@
-// What a turn of each knob does on a side.
+// What a turn of each knob does.
 use bench::Bench;
-use bench::Channel;
-use bench::Counts;
 use bench::References;
+use bench::parts::HEADING;
+use bench::parts::IAS;
+use bench::parts::PITCH;
+use bench::parts::PRESELECTED;
+use bench::parts::VERTICAL_SPEED;
+use bench::parts::box_of;
+use bench::parts::reference_at;
+use bench::parts::with_box;
+use bench::parts::with_reference;
+use bench::side_acts;
 use modes::ModeSet;
 ghost use mathlib.Core.Path.{_≡_};
-ghost use Rattle.modes.specs.Sets.{PITCH, engage, inOn};
+ghost use Prim.Native.Nat.{_<_};
 ghost use lib.IntN.{pos, _*ℤ_};
-ghost use Rattle.rotation.specs.Rotation.{rotationOf};
-ghost use Rattle.knobs.specs.Knobs.{countOf, withCount, counted, referred, pitched, differ, wheelTurned, altitudeTurned, speedTurned, headingTurned, knobTurned, turned};
-ghost use Rattle.knobs.specs.Tables.{moreVerticalSpeed, morePitch, moreIas, morePreselected, moreHeading};
-
-// The last count of a knob.
-fn count_of(knob: u32, c: Counts) -> u8
-    ensures { λ res. ⌜ res ≡ countOf knob c ⌝ }
-{
-    match knob {
-        0 => c.wheel,
-        1 => c.altitude,
-        2 => c.speed,
-        _ => c.heading,
-    }
-}
-
-fn with_count(knob: u32, n: u8, c: Counts) -> Counts
-    ensures { λ res. ⌜ res ≡ withCount knob n c ⌝ }
-{
-    let mut next = c;
-    match knob {
-        0 => {
-            next.wheel = n;
-        }
-        1 => {
-            next.altitude = n;
-        }
-        2 => {
-            next.speed = n;
-        }
-        _ => {
-            next.heading = n;
-        }
-    }
-    next
-}
+ghost use lib.Signed.{mag};
+ghost use Rattle.modes.specs.Sets.{PITCH, ALTSEL, engage, engagedIn, inOn};
+ghost use Rattle.bench.specs.Sides.{whereActing};
+ghost use Rattle.knobs.specs.Knobs.{counted, moved, referred, referenceMoved, pitched, differ, wheelTurned, altitudeMoved, altitudeTurned, headingMoved, headingTurned, knobTurned, turned};
 
 // The bench with a knob's new count.
 fn count(b: Bench, knob: u32, n: u8) -> Bench
     ensures { λ res. ⌜ res ≡ counted knob n b ⌝ }
 {
     let was = b.counts;
-    let counts = with_count(knob, n, was);
-    let mut next = b;
-    next.counts = counts;
-    next
+    bench::parts::with_counts(b, bench::parts::with_count(was, knob, n))
+}
+
+// The references with an amount added at a place, clamped to its range.
+fn move_at(r: References, place: u32, amount: i32) -> References
+    ensures { λ res. ⌜ res ≡ moved place amount r ⌝ }
+{
+    let range = bench::ranges::reference_range(place);
+    let next = bench::ranges::clamped_sum(range, reference_at(r, place), amount);
+    with_reference(r, place, next)
 }
 
 // The bench with other references on a side.
-fn refer(b: Bench, number: u32, references: References) -> Bench
-    ensures { λ res. ⌜ res ≡ referred references number b ⌝ }
+fn refer(b: Bench, side: u32, references: References) -> Bench
+    ensures { λ res. ⌜ res ≡ referred references side b ⌝ }
 {
-    let c = bench::side_of(b, number);
-    let set = c.set;
-    bench::with_side(
-        b,
-        number,
-        Channel {
-            fd: c.fd,
-            set,
-            references,
-        },
-    )
+    let c = box_of(b, side);
+    with_box(b, side, bench::parts::with_references(c, references))
+}
+
+fn move_reference(b: Bench, side: u32, place: u32, amount: i32) -> Bench
+    ensures { λ res. ⌜ res ≡ referenceMoved place amount side b ⌝ }
+{
+    let c = box_of(b, side);
+    let was = c.references;
+    refer(b, side, move_at(was, place, amount))
 }
 
 // PITCH in a set that is On.
@@ -83,79 +64,44 @@ fn pitch_in(s: ModeSet) -> ModeSet
 }
 
 // PITCH engages on a side, with entry.
-fn engage_pitch_on(b: Bench, number: u32) -> Bench
-    ensures { λ res. ⌜ res ≡ pitched number b ⌝ }
+fn engage_pitch_on(b: Bench, side: u32) -> Bench
+    ensures { λ res. ⌜ res ≡ pitched side b ⌝ }
 {
-    let c = bench::side_of(b, number);
+    let c = box_of(b, side);
     let was = c.set;
-    let set = pitch_in(was);
-    steps::settle(b, number, set)
-}
-
-fn add_vertical_speed(r: References, amount: i32) -> References
-    ensures { λ res. ⌜ res ≡ moreVerticalSpeed amount r ⌝ }
-{
-    let mut next = r;
-    next.vertical_speed = rotation::clamp_add(r.vertical_speed, amount, -50, 50);
-    next
-}
-
-fn add_pitch(r: References, amount: i32) -> References
-    ensures { λ res. ⌜ res ≡ morePitch amount r ⌝ }
-{
-    let mut next = r;
-    next.pitch = rotation::clamp_add(r.pitch, amount, -20, 20);
-    next
-}
-
-fn add_speed(r: References, amount: i32) -> References
-    ensures { λ res. ⌜ res ≡ moreIas amount r ⌝ }
-{
-    let mut next = r;
-    next.ias = rotation::clamp_add(r.ias, amount, 60, 400);
-    next
-}
-
-fn add_altitude(r: References, amount: i32) -> References
-    ensures { λ res. ⌜ res ≡ morePreselected amount r ⌝ }
-{
-    let mut next = r;
-    next.preselected = rotation::clamp_add(r.preselected, amount, -8000, 56000);
-    next
-}
-
-fn add_heading(r: References, amount: i32) -> References
-    ensures { λ res. ⌜ res ≡ moreHeading amount r ⌝ }
-{
-    let mut next = r;
-    next.heading = rotation::heading_add(r.heading, amount);
-    next
+    steps::settle(b, side, pitch_in(was))
 }
 
 // In VS and PITCH, laws 2 and 1, the wheel moves the reference; in VAPPR, law 7, and Off it does
 // nothing; in another mode PITCH engages.
-fn turn_wheel(b: Bench, number: u32, amount: i32) -> Bench
-    ensures { λ res. ⌜ res ≡ wheelTurned amount number b ⌝ }
+fn turn_wheel(b: Bench, side: u32, amount: i32) -> Bench
+    ensures { λ res. ⌜ res ≡ wheelTurned amount side b ⌝ }
 {
-    let c = bench::side_of(b, number);
+    let c = box_of(b, side);
     let set = c.set;
-    let was = c.references;
     let law = modes::numbers::vertical_law(set);
     match law {
         0 => b,
-        1 => refer(b, number, add_pitch(was, amount)),
-        2 => refer(b, number, add_vertical_speed(was, amount)),
+        1 => move_reference(b, side, PITCH, amount),
+        2 => move_reference(b, side, VERTICAL_SPEED, amount),
         7 => b,
-        _ => engage_pitch_on(b, number),
+        _ => engage_pitch_on(b, side),
     }
 }
 
-// A hundred of a rotation, which always fits.
-fn hundreds(old: u8, new: u8) -> i32
-    ensures { λ res. ⌜ res ≡ rotationOf old new *ℤ pos 100 ⌝ }
+// A hundred of a rotation, which is from -128 to 127 (`mag` of -128 is 127), so that it fits.
+fn hundreds(amount: i32) -> i32
+    requires { ⌜ mag amount < 128 ⌝ }
+    ensures { λ res. ⌜ res ≡ amount *ℤ pos 100 ⌝ }
 {
-    let turned = rotation::rotation(old, new);
-    turned * 100
+    amount * 100
+}
+
+fn move_altitude(r: References, amount: i32) -> References
+    requires { ⌜ mag amount < 128 ⌝ }
+    ensures { λ res. ⌜ res ≡ altitudeMoved amount r ⌝ }
+{
+    move_at(r, PRESELECTED, hundreds(amount))
 }
 
 fn differs(x: i32, y: i32) -> bool
@@ -164,51 +110,85 @@ fn differs(x: i32, y: i32) -> bool
     (x < y) | (y < x)
 }
 
-// The preselected altitude moves; where it changed and ALTSEL, laws 5 and 6, is engaged, PITCH
-// engages.
-fn turn_altitude(b: Bench, number: u32, old: u8, new: u8) -> Bench
-    ensures { λ res. ⌜ res ≡ altitudeTurned (rotationOf old new) number b ⌝ }
+// Whether the preselected altitude differs between two sets of references.
+fn preselection_differs(was: References, next: References) -> bool
+    ensures { λ res. ⌜ res ≡ differ (was .preselected) (next .preselected) ⌝ }
 {
-    let c = bench::side_of(b, number);
+    differs(was.preselected, next.preselected)
+}
+
+// Whether ALTSEL, law 5 or 6, is engaged.
+fn in_altsel(s: ModeSet) -> bool
+    ensures { λ res. ⌜ res ≡ engagedIn ALTSEL s ⌝ }
+{
+    let law = modes::numbers::vertical_law(s);
+    match law {
+        5 => true,
+        6 => true,
+        _ => false,
+    }
+}
+
+// The preselected altitude moves; where it changed and ALTSEL is engaged, PITCH engages.
+fn turn_altitude(b: Bench, side: u32, amount: i32) -> Bench
+    requires { ⌜ mag amount < 128 ⌝ }
+    ensures { λ res. ⌜ res ≡ altitudeTurned amount side b ⌝ }
+{
+    let c = box_of(b, side);
     let set = c.set;
     let was = c.references;
-    let next = add_altitude(was, hundreds(old, new));
-    let changed = differs(was.preselected, next.preselected);
-    let law = modes::numbers::vertical_law(set);
-    let moved = refer(b, number, next);
-    if changed & ((law == 5) | (law == 6)) {
-        engage_pitch_on(moved, number)
+    let next = move_altitude(was, amount);
+    let capturing = in_altsel(set);
+    let changed = preselection_differs(was, next);
+    let moved = refer(b, side, next);
+    if capturing & changed {
+        engage_pitch_on(moved, side)
     } else {
         moved
     }
 }
 
-fn turn_speed(b: Bench, number: u32, amount: i32) -> Bench
-    ensures { λ res. ⌜ res ≡ speedTurned amount number b ⌝ }
+fn move_heading(r: References, amount: i32) -> References
+    ensures { λ res. ⌜ res ≡ headingMoved amount r ⌝ }
 {
-    let c = bench::side_of(b, number);
-    let was = c.references;
-    refer(b, number, add_speed(was, amount))
+    with_reference(
+        r,
+        HEADING,
+        rotation::heading_add(reference_at(r, HEADING), amount),
+    )
 }
 
-fn turn_heading(b: Bench, number: u32, amount: i32) -> Bench
-    ensures { λ res. ⌜ res ≡ headingTurned amount number b ⌝ }
+fn turn_heading(b: Bench, side: u32, amount: i32) -> Bench
+    ensures { λ res. ⌜ res ≡ headingTurned amount side b ⌝ }
 {
-    let c = bench::side_of(b, number);
+    let c = box_of(b, side);
     let was = c.references;
-    refer(b, number, add_heading(was, amount))
+    refer(b, side, move_heading(was, amount))
 }
 
-// A turn of a knob from one count to another, on a side.
-fn turn_knob(b: Bench, knob: u32, old: u8, new: u8, number: u32) -> Bench
-    ensures { λ res. ⌜ res ≡ knobTurned knob (rotationOf old new) number b ⌝ }
+// A rotation of a knob, on a side.
+fn turn_knob(b: Bench, knob: u32, amount: i32, side: u32) -> Bench
+    requires { ⌜ mag amount < 128 ⌝ }
+    ensures { λ res. ⌜ res ≡ knobTurned knob amount side b ⌝ }
 {
-    let amount = rotation::rotation(old, new);
     match knob {
-        0 => turn_wheel(b, number, amount),
-        1 => turn_altitude(b, number, old, new),
-        2 => turn_speed(b, number, amount),
-        _ => turn_heading(b, number, amount),
+        0 => turn_wheel(b, side, amount),
+        1 => turn_altitude(b, side, amount),
+        2 => move_reference(b, side, IAS, amount),
+        _ => turn_heading(b, side, amount),
+    }
+}
+
+// A rotation of a knob, on a side that acts; another is left as it is.
+fn where_acting(b: Bench, knob: u32, amount: i32, side: u32) -> Bench
+    requires { ⌜ mag amount < 128 ⌝ }
+    ensures { λ res. ⌜ res ≡ whereActing (knobTurned knob amount) side b ⌝ }
+{
+    let acts = side_acts(b, side);
+    if acts {
+        turn_knob(b, knob, amount, side)
+    } else {
+        b
     }
 }
 
@@ -216,13 +196,13 @@ fn turn_knob(b: Bench, knob: u32, old: u8, new: u8, number: u32) -> Bench
 pub fn turn_to(b: Bench, knob: u32, new: u8) -> Bench
     ensures { λ res. ⌜ res ≡ turned knob new b ⌝ }
 {
-    let shared = b.shared;
     let counts = b.counts;
-    let old = count_of(knob, counts);
+    let old = bench::parts::count_of(counts, knob);
     let next = count(b, knob, new);
     if new == old {
-        next
-    } else {
-        turn_knob(next, knob, old, new, shared.pf)
+        return next;
     }
+    let amount = rotation::rotation(old, new);
+    let left = where_acting(next, knob, amount, 0);
+    where_acting(left, knob, amount, 1)
 }

@@ -1,1 +1,5 @@
+pub mod Finite
+pub mod Every
+pub mod Laws
 pub mod Joins
+pub mod Arms

@@ -7,11 +7,13 @@ use Rattle.modes.specs.declared.Vertical.{Vertical}
 use Rattle.modes.specs.declared.Modes.{Modes}
 use Rattle.modes.specs.declared.ModeSet.{ModeSet}
 use Rattle.modes.specs.declared.Event.{Event}
-use Rattle.modes.specs.declared.Shared.{Shared}
-use Rattle.modes.specs.declared.Event.the-variants.{ApDisconnect, ApSwitch, OverspeedBegins, OverspeedEnds, GoAround, Transfer, FdSwitchLeft, FdSwitchRight, SourceChanged, NavCaptured, LapprCaptured, VapprCaptured, AltselCaptured, AltselOnTrack, HdgSwitch, NavSwitch, ApprSwitch, VsSwitch, FlcSwitch, AltSwitch, NoEvent}
+use Rattle.modes.specs.declared.Event.the-variants.{ApDisconnect, ApSwitch, OverspeedBegins, OverspeedEnds, GoAround, Transfer, FdSwitchLeft}
+use Rattle.modes.specs.declared.Event.the-variants.{FdSwitchRight, SourceChanged, NavCaptured, LapprCaptured, VapprCaptured, AltselCaptured, AltselOnTrack}
+use Rattle.modes.specs.declared.Event.the-variants.{HdgSwitch, NavSwitch, ApprSwitch, VsSwitch, FlcSwitch, AltSwitch, NoEvent}
 use Rattle.modes.specs.Finite.{pick}
 use Rattle.modes.specs.Numbers.{verticalNumber}
-use Rattle.modes.specs.Sets.{Mode, ROLL, HDG, NAV, LAPPR, LGA, PITCH, VS, FLC, ALT, ALTSEL, VAPPR, VGA, engaged, armed, cleared, engagedIn, selectedIn, engage, arm, disarm, clear, withVertical}
+use Rattle.modes.specs.Sets.{Mode, ROLL, HDG, NAV, LAPPR, LGA, PITCH, VS, FLC, ALT, ALTSEL, VAPPR}
+use Rattle.modes.specs.Sets.{VGA, engaged, armed, cleared, engagedIn, selectedIn, engage, arm, disarm, clear, withVertical}
 
 -- the events in the order of their numbers, from 0
 abbrev pub numbered : List Event
@@ -22,6 +24,30 @@ numbered =
 -- the event of a number; past 19 there is none
 abbrev pub eventAt : ℕ → Event
 eventAt n = pick NoEvent numbered n
+
+-- the number of an event, and 32 for none
+abbrev pub eventNumber : Event → ℕ
+eventNumber ApDisconnect = 0
+eventNumber ApSwitch = 1
+eventNumber OverspeedBegins = 2
+eventNumber OverspeedEnds = 3
+eventNumber GoAround = 4
+eventNumber Transfer = 5
+eventNumber FdSwitchLeft = 6
+eventNumber FdSwitchRight = 7
+eventNumber SourceChanged = 8
+eventNumber NavCaptured = 9
+eventNumber LapprCaptured = 10
+eventNumber VapprCaptured = 11
+eventNumber AltselCaptured = 12
+eventNumber AltselOnTrack = 13
+eventNumber HdgSwitch = 14
+eventNumber NavSwitch = 15
+eventNumber ApprSwitch = 16
+eventNumber VsSwitch = 17
+eventNumber FlcSwitch = 18
+eventNumber AltSwitch = 19
+eventNumber NoEvent = 32
 
 -- ---- what an event says of AP, the flag, PF and the flight directors, in the first step
 
@@ -37,12 +63,12 @@ on x = true
 abbrev toggles : Bool → Bool
 toggles x = not x
 
-abbrev keeps : ℕ → ℕ
-keeps s = s
+-- whether PF moves to the other side
+abbrev moves : Bool
+moves = true
 
--- the other side of two
-abbrev pub otherSide : ℕ → ℕ
-otherSide s = cond (eqb s 0) 1 0
+abbrev remains : Bool
+remains = false
 
 -- whose FD switch is pressed
 abbrev nobody : ℕ → Bool
@@ -127,39 +153,34 @@ switchFlc flag m = cond (engaged FLC m && flag) m (switch FLC m)
 pub record Line : Type 0 where
   pub ap : Bool → Bool
   pub flag : Bool → Bool
-  pub pf : ℕ → ℕ
+  pub transfers : Bool
   pub pressed : ℕ → Bool
   pub asksFd : Bool → Bool → ModeSet → Bool
   pub change : Bool → Modes → Modes
 
-abbrev line : (Bool → Bool) → (Bool → Bool) → (ℕ → ℕ) → (ℕ → Bool) → (Bool → Bool → ModeSet → Bool) → (Bool → Modes → Modes) → Line
-line a f p d q c = record { ap = a; flag = f; pf = p; pressed = d; asksFd = q; change = c }
+abbrev line : (Bool → Bool) → (Bool → Bool) → Bool → (ℕ → Bool) → (Bool → Bool → ModeSet → Bool) → (Bool → Modes → Modes) → Line
+line a f t d q c = record { ap = a; flag = f; transfers = t; pressed = d; asksFd = q; change = c }
 
 -- a line for each event; the columns are AP, the flag, PF, whose FD switch is pressed, when the active side's FD is set On, and the mode change
 abbrev pub lineOf : Event → Line
-lineOf ApDisconnect = line off stays keeps nobody never none
-lineOf ApSwitch = line toggles stays keeps nobody whenApEngages none
-lineOf OverspeedBegins = line stays on keeps nobody ifFlagClear overspeed
-lineOf OverspeedEnds = line stays off keeps nobody never none
-lineOf GoAround = line off stays keeps nobody always (either goAround)
-lineOf Transfer = line stays stays otherSide nobody never (either takeBasic)
-lineOf FdSwitchLeft = line stays stays keeps left never none
-lineOf FdSwitchRight = line stays stays keeps right never none
-lineOf SourceChanged = line stays stays keeps nobody never (either clearNavigation)
-lineOf NavCaptured = line stays stays keeps nobody never (either (capture NAV))
-lineOf LapprCaptured = line stays stays keeps nobody never (either (capture LAPPR))
-lineOf VapprCaptured = line stays stays keeps nobody never captureVappr
-lineOf AltselCaptured = line stays stays keeps nobody never (either (capture ALTSEL))
-lineOf AltselOnTrack = line stays stays keeps nobody never (either track)
-lineOf HdgSwitch = line stays stays keeps nobody (unlessEngaged HDG) (either (switch HDG))
-lineOf NavSwitch = line stays stays keeps nobody (unlessSelected NAV) (either switchNav)
-lineOf ApprSwitch = line stays stays keeps nobody (unlessSelected LAPPR) (either switchAppr)
-lineOf VsSwitch = line stays stays keeps nobody (unlessEngaged VS) (either (switch VS))
-lineOf FlcSwitch = line stays stays keeps nobody (unlessEngaged FLC) switchFlc
-lineOf AltSwitch = line stays stays keeps nobody (unlessEngaged ALT) (either (switch ALT))
-lineOf NoEvent = line stays stays keeps nobody never none
-
--- ---- the first step, but for the flight directors
-
-unfoldable pub sharedAfter : Event → Shared → Shared
-sharedAfter e s = record { pf = lineOf e .pf (s .pf); ap = lineOf e .ap (s .ap); overspeed = lineOf e .flag (s .overspeed) }
+lineOf ApDisconnect = line off stays remains nobody never none
+lineOf ApSwitch = line toggles stays remains nobody whenApEngages none
+lineOf OverspeedBegins = line stays on remains nobody ifFlagClear overspeed
+lineOf OverspeedEnds = line stays off remains nobody never none
+lineOf GoAround = line off stays remains nobody always (either goAround)
+lineOf Transfer = line stays stays moves nobody never (either takeBasic)
+lineOf FdSwitchLeft = line stays stays remains left never none
+lineOf FdSwitchRight = line stays stays remains right never none
+lineOf SourceChanged = line stays stays remains nobody never (either clearNavigation)
+lineOf NavCaptured = line stays stays remains nobody never (either (capture NAV))
+lineOf LapprCaptured = line stays stays remains nobody never (either (capture LAPPR))
+lineOf VapprCaptured = line stays stays remains nobody never captureVappr
+lineOf AltselCaptured = line stays stays remains nobody never (either (capture ALTSEL))
+lineOf AltselOnTrack = line stays stays remains nobody never (either track)
+lineOf HdgSwitch = line stays stays remains nobody (unlessEngaged HDG) (either (switch HDG))
+lineOf NavSwitch = line stays stays remains nobody (unlessSelected NAV) (either switchNav)
+lineOf ApprSwitch = line stays stays remains nobody (unlessSelected LAPPR) (either switchAppr)
+lineOf VsSwitch = line stays stays remains nobody (unlessEngaged VS) (either (switch VS))
+lineOf FlcSwitch = line stays stays remains nobody (unlessEngaged FLC) switchFlc
+lineOf AltSwitch = line stays stays remains nobody (unlessEngaged ALT) (either (switch ALT))
+lineOf NoEvent = line stays stays remains nobody never none

@@ -4,4 +4,4 @@ pub mod Sets
 pub mod Numbers
 pub mod Events
 pub mod Laws
-pub mod Tables
+pub mod Private

@@ -92,7 +92,8 @@ implies a b = not a || b
 unfoldable pub once : Mode → Modes → Bool
 once x m = not (armed x m && engaged x m)
 
--- The third demand's rules on armed and approach modes, and VAPPR is cleared when LAPPR is. (That at most one of NAV and LAPPR is armed, and when ALTSEL is, is so in every representable set)
+-- The third demand's rules on armed and approach modes, and VAPPR is cleared when LAPPR is. (That at most one of NAV and LAPPR is armed, and when ALTSEL is,
+-- is so in every representable set)
 unfoldable pub coherent : Modes → Bool
 coherent m =
     once NAV m && once LAPPR m && once ALTSEL m && once VAPPR m
@@ -157,7 +158,8 @@ drop x m = cond (engaged x m) (put (basic x) (disarm x m)) (disarm x m)
 unfoldable pub clear : Mode → Modes → Modes
 clear x m = cond (is x LAPPR) (drop VAPPR (drop LAPPR m)) (drop x m)
 
--- engaging a mode ends its own arming and clears the mode that it replaces. So another vertical mode clears VAPPR if that was engaged, and leaves it armed if it was armed
+-- engaging a mode ends its own arming and clears the mode that it replaces. So another vertical mode clears VAPPR if that was engaged, and leaves it armed if
+-- it was armed
 unfoldable pub engage : Mode → Modes → Modes
 engage x m = cond (engaged x m) (disarm x m) (put x (clear (beside x m) (disarm x m)))
 
@@ -166,6 +168,10 @@ engage x m = cond (engaged x m) (disarm x m) (put x (clear (beside x m) (disarm 
 -- what coming on gives
 abbrev pub basicModes : Modes
 basicModes = record { lateral = Lateral.Roll; armed = ArmedLateral.Neither; vertical = Vertical.Pitch; «vappr_armed» = false }
+
+abbrev pub isOff : ModeSet → Bool
+isOff ModeSet.Off = true
+isOff (ModeSet.On m) = false
 
 abbrev pub coherentSet : ModeSet → Bool
 coherentSet ModeSet.Off = true

@@ -67,10 +67,3 @@ pub enum Event {
     AltSwitch,
     NoEvent,
 }
-
-// What the two sides share and an event can change: the PF side, AP and the overspeed flag.
-pub struct Shared {
-    pub pf: u32,
-    pub ap: bool,
-    pub overspeed: bool,
-}

@@ -2,13 +2,12 @@
 use crate::ArmedLateral;
 use crate::Lateral;
 use crate::ModeSet;
-use crate::Modes;
 use crate::Vertical;
 ghost use mathlib.Core.Path.{_≡_};
-ghost use Rattle.modes.specs.declared.ModeSet.{ModeSet};
+ghost use Prim.Native.Nat.{_+_, _≤_};
 ghost use Rattle.modes.specs.Numbers.{lateralNumber, verticalNumber, lateralLaw, verticalLaw, armedSum, modeLamps, worth};
 ghost use Rattle.modes.specs.Sets.{armsNav, armsLappr};
-ghost use Rattle.modes.specs.Tables.{lateralLamps, verticalLamps};
+ghost use Rattle.modes.specs.Private.{Added};
 
 pub fn lateral_number(l: Lateral) -> u32
     ensures { λ res. ⌜ res ≡ lateralNumber l ⌝ }
@@ -90,60 +89,32 @@ pub fn worth(lit: bool, n: u32) -> u32
     if lit { n } else { 0 }
 }
 
-fn armed_sum_on(m: Modes) -> u32
-    ensures { λ res. ⌜ res ≡ armedSum (ModeSet.On m) ⌝ }
+// A sum and one part more. No sum here passes 63.
+fn add_part(sum: u32, lit: bool, n: u32) -> u32
+    requires { ⌜ sum + n ≤ 63 ⌝ }
+    ensures { λ res. ⌜ Added sum lit n res ⌝ }
 {
-    let a = m.armed;
-    let v = m.vertical;
-    let nav = worth(arms_nav(a), 1);
-    let lappr = worth(arms_lappr(a), 2);
-    let law = vertical_number(v);
-    let altsel = worth((law <= 3) | (law == 8), 4);
-    let vappr = worth(m.vappr_armed, 8);
-    nav + lappr + altsel + vappr
+    sum + worth(lit, n)
 }
 
-// The armed modes as a sum: NAV 1, LAPPR 2, ALTSEL 4, VAPPR 8.
+// The armed modes as a sum: NAV 1, LAPPR 2, ALTSEL 4 (beside vertical laws 1 to 3 and 8), VAPPR 8.
 pub fn armed_sum(s: ModeSet) -> u32
     ensures { λ res. ⌜ res ≡ armedSum s ⌝ }
 {
     match s {
         ModeSet::Off => 0,
-        ModeSet::On(m) => armed_sum_on(m),
+        ModeSet::On(m) => {
+            let a = m.armed;
+            let v = m.vertical;
+            let law = vertical_number(v);
+            let lateral = add_part(add_part(0, arms_nav(a), 1), arms_lappr(a), 2);
+            add_part(
+                add_part(lateral, (law <= 3) | (law == 8), 4),
+                m.vappr_armed,
+                8,
+            )
+        }
     }
-}
-
-fn lateral_lamps(m: Modes) -> u32
-    ensures { λ res. ⌜ res ≡ lateralLamps m ⌝ }
-{
-    let l = m.lateral;
-    let a = m.armed;
-    let law = lateral_number(l);
-    let nav_armed = arms_nav(a);
-    let lappr_armed = arms_lappr(a);
-    let hdg = worth(law == 2, 1);
-    let nav = worth((law == 3) | nav_armed, 2);
-    let appr = worth((law == 4) | lappr_armed, 4);
-    hdg + nav + appr
-}
-
-fn vertical_lamps(m: Modes) -> u32
-    ensures { λ res. ⌜ res ≡ verticalLamps m ⌝ }
-{
-    let v = m.vertical;
-    let law = vertical_number(v);
-    let vs = worth(law == 2, 8);
-    let flc = worth(law == 3, 16);
-    let alt = worth(law == 4, 32);
-    vs + flc + alt
-}
-
-fn mode_lamps_on(m: Modes) -> u32
-    ensures { λ res. ⌜ res ≡ modeLamps (ModeSet.On m) ⌝ }
-{
-    let lateral = lateral_lamps(m);
-    let vertical = vertical_lamps(m);
-    lateral + vertical
 }
 
 // The mode lamps as a sum: HDG 1, NAV 2, APPR 4, VS 8, FLC 16, ALT 32.
@@ -152,6 +123,20 @@ pub fn mode_lamps(s: ModeSet) -> u32
 {
     match s {
         ModeSet::Off => 0,
-        ModeSet::On(m) => mode_lamps_on(m),
+        ModeSet::On(m) => {
+            let l = m.lateral;
+            let a = m.armed;
+            let v = m.vertical;
+            let lateral = lateral_number(l);
+            let nav = (lateral == 3) | arms_nav(a);
+            let appr = (lateral == 4) | arms_lappr(a);
+            let switches = add_part(add_part(add_part(0, lateral == 2, 1), nav, 2), appr, 4);
+            let law = vertical_number(v);
+            add_part(
+                add_part(add_part(switches, law == 2, 8), law == 3, 16),
+                law == 4,
+                32,
+            )
+        }
     }
 }

@@ -10,7 +10,7 @@ use crate::numbers::lateral_number;
 use crate::numbers::vertical_number;
 ghost use mathlib.Core.Path.{_≡_};
 ghost use Rattle.modes.specs.Sets.{NAV, LAPPR, basicModes, coherent, coherentSet, selectedIn};
-ghost use Rattle.modes.specs.Tables.{vapprAgrees, armedAgrees};
+ghost use Rattle.modes.specs.Private.{vapprAgrees, armedAgrees};
 
 // ROLL and PITCH with no mode armed but ALTSEL: what coming on gives.
 pub fn basic_modes() -> Modes
@@ -65,33 +65,17 @@ pub fn set_is_coherent(s: ModeSet) -> bool
     }
 }
 
-fn nav_is_selected(m: Modes) -> bool
-    ensures { λ res. ⌜ res ≡ selectedIn NAV (ModeSet.On m) ⌝ }
-{
-    let l = m.lateral;
-    let a = m.armed;
-    let law = lateral_number(l);
-    let armed = arms_nav(a);
-    (law == 3) | armed
-}
-
-fn lappr_is_selected(m: Modes) -> bool
-    ensures { λ res. ⌜ res ≡ selectedIn LAPPR (ModeSet.On m) ⌝ }
-{
-    let l = m.lateral;
-    let a = m.armed;
-    let law = lateral_number(l);
-    let armed = arms_lappr(a);
-    (law == 4) | armed
-}
-
 // Whether NAV is armed or engaged.
 pub fn selects_nav(s: ModeSet) -> bool
     ensures { λ res. ⌜ res ≡ selectedIn NAV s ⌝ }
 {
     match s {
         ModeSet::Off => false,
-        ModeSet::On(m) => nav_is_selected(m),
+        ModeSet::On(m) => {
+            let l = m.lateral;
+            let a = m.armed;
+            (lateral_number(l) == 3) | arms_nav(a)
+        }
     }
 }
 
@@ -101,6 +85,10 @@ pub fn selects_lappr(s: ModeSet) -> bool
 {
     match s {
         ModeSet::Off => false,
-        ModeSet::On(m) => lappr_is_selected(m),
+        ModeSet::On(m) => {
+            let l = m.lateral;
+            let a = m.armed;
+            (lateral_number(l) == 4) | arms_lappr(a)
+        }
     }
 }

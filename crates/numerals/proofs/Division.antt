@@ -46,7 +46,8 @@ quotient (fin s m e) (inf t) a b B h k = absurd k
 quotient (fin s m e) (fin t n d) a b B h k =
     let z : n ≡ 0 → ⊥ = some n (up d) b (down d) B (down-pos d) (k .1) in
     rw (ne-eqb n 0 z, h .0, k .0)
-    (round-same binary64 false (m * up e * down d) (n * up d * down e) a b (mul-pos (mul-pos (above n z) (up-pos d)) (down-pos e)) B (cross (m * up e) (n * up d) a b (down e) (down d) (h .1) (k .1)))
+    (round-same binary64 false (m * up e * down d) (n * up d * down e) a b (mul-pos (mul-pos (above n z) (up-pos d)) (down-pos e)) B
+    (cross (m * up e) (n * up d) a b (down e) (down d) (h .1) (k .1)))
   where
     above : (n : ℕ) → (n ≡ 0 → ⊥) → 0 < n
     above zero z = absurd (z refl)

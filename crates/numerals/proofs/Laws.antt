@@ -1,4 +1,4 @@
--- What a reader of specs/Values.antt may rely on: a decimal's float is finite, and of all floats none is nearer to the decimal. Assumes nothing.
+-- The laws of specs/Laws.antt: a decimal is below 10 ^ 15, so that its float does not overflow, and `round` gives the nearest float. Assumes nothing.
 use mathlib.Core.Path.{_≡_, refl, subst}
 use mathlib.Core.Bool.{Bool, true, false, not, _&&_, _||_, cond}
 use mathlib.Core.List.{List, _++_}
@@ -6,28 +6,22 @@ use Prim.Native.Nat.{ℕ, _+_, _-_, _*_, _/_, _%_, _^_, _≤_, _<_, compare}
 use native.Mathlib.Nat.{le-trans, lt-of-le-of-lt, div-le-self, div-div-eq-div-mul, mul-le-mul}
 use native.Mathlib.Omega.{arith}
 use borrow.Author.Tests.{ltb-true}
-use lib.Dec.{T, leb, ltb}
-use lib.IntN.{ℤ}
+use lib.Dec.{leb, ltb}
 use lib.ListN.{length}
 use lib.Pow.{pow-add, pow-mono, pow-lt, shl-lt}
-use lib.Ieee.{Float, nan, inf, fin, binary64, up, down, size, neg, round, fits}
+use lib.Ieee.{Float, nan, inf, fin, binary64, size, neg, round}
 use lib.Ieee.Digits.{size-le}
 use lib.Ieee.Fits.{nearest-le, kept-lt}
 use lib.Ieee.Exact.{HasValue}
 use lib.Ieee.Order.{drop, kept}
 use lib.Ieee.Scale.{grid, overflow, round-val}
 use Rattle.numerals.specs.declared.answers.Value.the-variants.{Is, Wrong}
-use Rattle.numerals.specs.Digits.{isNumeral, numberOf}
+use Rattle.numerals.specs.Digits.{isNumeral, numeralValue}
 use Rattle.numerals.specs.Values.{hasPoint, before, behind, isDecimal, decimalAs}
 use Rattle.numerals.proofs.Division.{power-above, neg-round}
-use Rattle.numerals.proofs.Nearest.{apart, none-nearer}
-use Rattle.numerals.proofs.Numerals.{both}
-
--- The float x is finite, and no float is nearer in size to n / p. The size of `fin s m e` is m * up e / down e; both distances are over one denominator.
-abbrev pub IsNearest : Float → ℕ → ℕ → Type 0
-IsNearest nan n p = ⊥
-IsNearest (inf s) n p = ⊥
-IsNearest (fin s m e) n p = (t : Bool) (k : ℕ) (d : ℤ) → T (fits binary64 (fin t k d)) → apart (m * up e * p) (n * down e) * down d ≤ apart (k * up d * p) (n * down d) * down e
+use Rattle.numerals.specs.Laws.{IsNearestFloat, ValueLaws}
+use Rattle.numerals.proofs.Nearest.{none-nearer}
+use Rattle.numerals.proofs.Reading.{both}
 
 -- ---- below 10 ^ 15 nothing overflows
 
@@ -46,33 +40,35 @@ few n p h =
     less x h = omega arith
 
 below : (n p : ℕ) → n < 10 ^ 15 → grid binary64 n p < overflow binary64
-below n p h = lt-of-le-of-lt (mul-le-mul (kept-le 53 (n * 2 ^ 1074) p) (pow-mono (few n p h))) (subst (λ (x : ℕ). x < 2 ^ 2098) (pow-add 2 53 1071) (pow-lt {i = 53 + 1071} {j = 2098} (omega arith)))
+below n p h =
+    lt-of-le-of-lt (mul-le-mul (kept-le 53 (n * 2 ^ 1074) p) (pow-mono (few n p h)))
+    (subst (λ (x : ℕ). x < 2 ^ 2098) (pow-add 2 53 1071) (pow-lt {i = 53 + 1071} {j = 2098} (omega arith)))
 
 -- ---- the float
 
-of-value : (n p a c : ℕ) → 0 < p → (x : Float) → round binary64 false n p ≡ x → HasValue x false a c → IsNearest x n p
+of-value : (n p a c : ℕ) → 0 < p → (x : Float) → round binary64 false n p ≡ x → HasValue x false a c → IsNearestFloat x n p
 of-value n p a c B nan e v = absurd v
 of-value n p a c B (inf s) e v = absurd v
 of-value n p a c B (fin s m d) e v = none-nearer binary64 n p B s m d e
 
-other-sign : (x : Float) (n p : ℕ) → IsNearest x n p → IsNearest (neg x) n p
+other-sign : (x : Float) (n p : ℕ) → IsNearestFloat x n p → IsNearestFloat (neg x) n p
 unfolding neg
 other-sign nan n p h = h
 other-sign (inf s) n p h = h
 other-sign (fin s m e) n p h = h
 
-plain : (n p : ℕ) → n < 10 ^ 15 → 0 < p → IsNearest (round binary64 false n p) n p
+plain : (n p : ℕ) → n < 10 ^ 15 → 0 < p → IsNearestFloat (round binary64 false n p) n p
 plain n p h B = of-value n p (grid binary64 n p) (2 ^ 1074) B (round binary64 false n p) refl (round-val binary64 n p (below n p h))
 
-rounded : (s : Bool) (n p : ℕ) → n < 10 ^ 15 → 0 < p → IsNearest (round binary64 s n p) n p
+rounded : (s : Bool) (n p : ℕ) → n < 10 ^ 15 → 0 < p → IsNearestFloat (round binary64 s n p) n p
 rounded false n p h B = plain n p h B
-rounded true n p h B = subst (λ (x : Float). IsNearest x n p) (neg-round binary64 n p) (other-sign (round binary64 false n p) n p (plain n p h B))
+rounded true n p h B = subst (λ (x : Float). IsNearestFloat x n p) (neg-round binary64 n p) (other-sign (round binary64 false n p) n p (plain n p h B))
 
 -- ---- a decimal, with the number of all its digits and 10 to the power of those behind the point
 
 module _ (s : Bool) (w : List ℕ) where
   abbrev n : ℕ
-  n = numberOf 10 (before w ++ behind w)
+  n = numeralValue 10 (before w ++ behind w)
 
   abbrev p : ℕ
   p = 10 ^ length (behind w)
@@ -84,12 +80,15 @@ module _ (s : Bool) (w : List ℕ) where
       let a = not (hasPoint w) || isNumeral 10 (behind w) in
       ltb-true n (10 ^ 15) (both b c (both a (b && c) (both (isNumeral 10 (before w)) (a && (b && c)) h .1) .1) .1)
 
-  pub decimal-nearest : (x : Float) → decimalAs s w ≡ Is x → IsNearest x n p
+  decimal-nearest : (x : Float) → decimalAs s w ≡ Is x → IsNearestFloat x n p
   unfolding decimalAs
   decimal-nearest x e = go (isDecimal w) refl e
     where
-      go : (t : Bool) → isDecimal w ≡ t → cond t (Is (round binary64 s n p)) Wrong ≡ Is x → IsNearest x n p
+      go : (t : Bool) → isDecimal w ≡ t → cond t (Is (round binary64 s n p)) Wrong ≡ Is x → IsNearestFloat x n p
       go false h e = absurd (let z : _≡_ {A = ℕ} 0 1 = cc in omega arith)
       go true h e =
           let f : round binary64 s n p ≡ x = cc in
-          subst (λ (y : Float). IsNearest y n p) f (rounded s n p (small h) (power-above (length (behind w))))
+          subst (λ (y : Float). IsNearestFloat y n p) f (rounded s n p (small h) (power-above (length (behind w))))
+
+pub value-laws : ValueLaws
+value-laws = record { decimal-nearest = decimal-nearest }

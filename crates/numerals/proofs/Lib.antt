@@ -1,9 +1,9 @@
 pub mod Reading
 pub mod Numerals
-pub mod Places
 pub mod Signs
 pub mod Division
 pub mod Decimals
 pub mod Patterns
 pub mod Nearest
 pub mod Laws
+pub mod Examples

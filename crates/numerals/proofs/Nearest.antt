@@ -1,25 +1,22 @@
 -- `round`, in whose terms the contract of `value` speaks, gives the float nearest to a fraction: no other float is nearer. Assumes nothing.
-use mathlib.Core.Path.{_≡_, refl, sym, ap, _∙_, subst}
+use mathlib.Core.Path.{_≡_, refl, sym, ap, _∙_}
 use mathlib.Core.Bool.{Bool, false, not, _&&_}
-use Prim.Native.Nat.{ℕ, zero, suc, _+_, _-_, _*_, _/_, _%_, _^_, _≤_, _<_, compare, Ordering, Ordering·lt, Ordering·eq, Ordering·gt}
+use Prim.Native.Nat.{ℕ, zero, suc, _+_, _-_, _*_, _/_, _%_, _^_, _≤_, _<_, compare}
 use native.Mathlib.Nat.{le-trans, le-of-eq, lt-of-not-le, not-le-of-lt, le-of-lt, mod-lt, div-add-mod', suc-mul, mul-sub, mul-comm, mul-assoc, mul-left-comm, mul-right-comm, mul-pos, add-mul, add-zero, zero-mul, mul-one, mul-le-mul-right, le-of-mul-le-mul-right, le-div-iff-mul-le}
 use native.Mathlib.Omega.{arith}
 use native.Mathlib.Decide.{decLe}
-use lib.Arith.{lt-of-le-ne}
-use lib.Dec.{T, isLe, isEq, eqb, leb, ltb, leb→le, nleb→lt, ltb→lt, eqb→eq, eqb-refl}
+use lib.Dec.{T, eqb, leb, ltb, leb→le, ltb→lt}
 use lib.IntN.{ℤ, pos, negsuc}
 use lib.Pow.{pow-add, pow-pos, pow-mono, pow-lt, shl-lt}
-use lib.Ieee.{Float, fin, Format, prec, emax, low, up, down, size, nearest, round, fits}
+use lib.Ieee.{fin, Format, prec, emax, low, up, down, size, round, fits}
 use lib.Ieee.Digits.{size-reaches, back}
 use lib.Ieee.Fits.{two, two-le-pos, and-l, and-r}
 use lib.Ieee.Exact.{HasValue}
 use lib.Ieee.Nearest.{closest}
 use lib.Ieee.Order.{drop, kept}
-use lib.Ieee.Scale.{grid, finite, round-val, round-under}
-
--- how far two numbers are apart
-abbrev pub apart : ℕ → ℕ → ℕ
-apart a b = (a - b) + (b - a)
+use Rattle.rounding.proofs.Fraction.{by-compare}
+use Rattle.numerals.specs.Laws.{apart}
+use lib.Ieee.Scale.{grid, round-val, round-under}
 
 apart-mul : (a b c : ℕ) → apart a b * c ≡ apart (a * c) (b * c)
 apart-mul a b c = add-mul (a - b) (b - a) c ∙ ap (λ (x : ℕ). x + (b - a) * c) (minus a b) ∙ ap (λ (x : ℕ). (a * c - b * c) + x) (minus b a)
@@ -28,16 +25,6 @@ apart-mul a b c = add-mul (a - b) (b - a) c ∙ ap (λ (x : ℕ). x + (b - a) * 
     minus x y = mul-comm (x - y) c ∙ mul-sub c x y ∙ ap (λ (z : ℕ). z - c * y) (mul-comm c x) ∙ ap (λ (z : ℕ). x * c - z) (mul-comm c y)
 
 -- ---- the whole number nearest to a / b
-
--- a property of `nearest`, by the three ways in which a and b compare
-by-compare : (P : ℕ → Type 0) (q a b : ℕ) → (a < b → P q) → (a ≡ b → P (q + q % 2)) → (b < a → P (suc q)) → P (nearest q (compare a b))
-by-compare P q a b less same more =
-    go (compare a b) (leb→le a b) (nleb→lt a b) (eqb→eq a b) (λ (e : a ≡ b). subst (λ (x : ℕ). T (eqb a x)) e (eqb-refl a))
-  where
-    go : (o : Ordering) → (T (isLe o) → a ≤ b) → (T (not (isLe o)) → b < a) → (T (isEq o) → a ≡ b) → (a ≡ b → T (isEq o)) → P (nearest q o)
-    go Ordering·lt h k e n = less (lt-of-le-ne (h tt) n)
-    go Ordering·eq h k e n = same (e tt)
-    go Ordering·gt h k e n = more (k tt)
 
 -- a is w * b + r, and v * b any other multiple of b
 module _ (w r a b v : ℕ) (d : w * b + r ≡ a) (l : r < b) where
@@ -93,13 +80,15 @@ module _ (p n c : ℕ) (P : 0 < p) (C : 0 < c) where
   pub near-units : (k j : ℕ) → k < 2 ^ p → apart (kept p n c * 2 ^ dropped * c) n ≤ apart (k * 2 ^ j * c) n
   near-units k j h = elim (decLe dropped j) [
     | yes l ↦
-        let e : k * 2 ^ (j - dropped) * 2 ^ dropped ≡ k * 2 ^ j = mul-assoc k (2 ^ (j - dropped)) (2 ^ dropped) ∙ ap (λ (x : ℕ). k * x) (sym (pow-add 2 (j - dropped) dropped) ∙ ap (λ (x : ℕ). 2 ^ x) (back j dropped l)) in
-        subst (λ (x : ℕ). apart (kept p n c * 2 ^ dropped * c) n ≤ apart (x * c) n) e (near-multiple (k * 2 ^ (j - dropped)))
+        let e : k * 2 ^ (j - dropped) * 2 ^ dropped ≡ k * 2 ^ j = rw (mul-assoc, ← pow-add 2 (j - dropped) dropped, back j dropped l) in
+        rw e at (near-multiple (k * 2 ^ (j - dropped)))
     | no l ↦
         let g : j < dropped = lt-of-not-le l in
-        let a : 2 ^ (p - 1) * 2 ^ dropped ≤ n / c = le-trans (le-of-eq (sym (pow-add 2 (p - 1) dropped))) (size-reaches (n / c) (p - 1 + dropped) (in-use (size (n / c)) p P (above j dropped g))) in
-        let b : k * 2 ^ j ≤ 2 ^ (p - 1) * 2 ^ dropped = le-trans (le-of-lt (shl-lt p j h)) (le-trans (pow-mono (room p j dropped P g)) (le-of-eq (pow-add 2 (p - 1) dropped))) in
-        further (k * 2 ^ j * c) (2 ^ (p - 1) * 2 ^ dropped * c) (kept p n c * 2 ^ dropped * c) (near-multiple (2 ^ (p - 1))) (mul-le-mul-right c b) (le-div-iff-mul-le C .0 a)
+        let e = pow-add 2 (p - 1) dropped in
+        let a : 2 ^ (p - 1) * 2 ^ dropped ≤ n / c = rw (← e) (size-reaches (n / c) (p - 1 + dropped) (in-use (size (n / c)) p P (above j dropped g))) in
+        let b : k * 2 ^ j ≤ 2 ^ (p - 1) * 2 ^ dropped = rw (← e) (le-trans (le-of-lt (shl-lt p j h)) (pow-mono (room p j dropped P g))) in
+        further (k * 2 ^ j * c) (2 ^ (p - 1) * 2 ^ dropped * c) (kept p n c * 2 ^ dropped * c) (near-multiple (2 ^ (p - 1)))
+        (mul-le-mul-right c b) (le-div-iff-mul-le C .0 a)
   ]
     where
       above : (x y : ℕ) → x < y → 0 < y
@@ -132,12 +121,13 @@ as-units f t (suc k) (negsuc a) h =
     (q .0, (low f - suc a, split (suc k) (low f) (suc a) (power-le (suc a) (low f) (q .1))))
   where
     split : (m l x : ℕ) → x ≤ l → m * 1 * 2 ^ l ≡ m * 2 ^ (l - x) * 2 ^ x
-    split m l x h = ap (λ (y : ℕ). y * 2 ^ l) (mul-one m) ∙ ap (λ (y : ℕ). m * 2 ^ y) (sym (back l x h)) ∙ ap (λ (y : ℕ). m * y) (pow-add 2 (l - x) x) ∙ sym (mul-assoc m (2 ^ (l - x)) (2 ^ x))
+    split m l x h = rw (mul-one, mul-assoc, ← pow-add 2 (l - x) x, back l x h)
 
 -- ---- of floats
 
 -- A float x that is a whole number of 1 / l and lies at most as far from n / p as y does: |x - n / p| over a common denominator.
-cross : (m u d k v g x y n p l : ℕ) → 0 < l → m * u * l ≡ x * d → k * v * l ≡ y * g → apart (x * p) (n * l) ≤ apart (y * p) (n * l) → apart (m * u * p) (n * d) * g ≤ apart (k * v * p) (n * g) * d
+cross : (m u d k v g x y n p l : ℕ) → 0 < l → m * u * l ≡ x * d → k * v * l ≡ y * g →
+    apart (x * p) (n * l) ≤ apart (y * p) (n * l) → apart (m * u * p) (n * d) * g ≤ apart (k * v * p) (n * g) * d
 cross m u d k v g x y n p l L e f h =
     let a : apart (m * u * p) (n * d) * l ≡ apart (x * p) (n * l) * d = scaled (m * u) d x e in
     let b : apart (k * v * p) (n * g) * l ≡ apart (y * p) (n * l) * g = scaled (k * v) g y f in
@@ -154,10 +144,11 @@ cross m u d k v g x y n p l L e f h =
         ∙ sym (apart-mul (c * p) (n * l) b)
 
 -- Of all floats none is nearer to n / p than `round` gives. The size of `fin s m e` is m * up e / down e.
-pub none-nearer : (f : Format) (n p : ℕ) → 0 < p → (s : Bool) (m : ℕ) (e : ℤ) → round f false n p ≡ fin s m e → (t : Bool) (k : ℕ) (d : ℤ) → T (fits f (fin t k d)) →
+pub none-nearer : (f : Format) (n p : ℕ) → 0 < p → (s : Bool) (m : ℕ) (e : ℤ) → round f false n p ≡ fin s m e →
+    (t : Bool) (k : ℕ) (d : ℤ) → T (fits f (fin t k d)) →
     apart (m * up e * p) (n * down e) * down d ≤ apart (k * up d * p) (n * down d) * down e
 none-nearer f n p B s m e is t k d h =
-    let v : HasValue (fin s m e) false (grid f n p) (2 ^ low f) = subst (λ (x : Float). HasValue x false (grid f n p) (2 ^ low f)) is (round-val f n p (round-under f n p (subst (λ (x : Float). T (finite x)) (sym is) tt))) in
+    let v : HasValue (fin s m e) false (grid f n p) (2 ^ low f) = rw is at (round-val f n p (round-under f n p (rw is tt))) in
     let u = as-units f t k d h in
     cross m (up e) (down e) k (up d) (down d) (grid f n p) (k * 2 ^ u .1 .0) n p (2 ^ low f) (pow-pos (low f)) (v .1) (u .1 .1)
     (near-units (prec f) (n * 2 ^ low f) p (two-le-pos (prec f) (two f)) B k (u .1 .0) (u .0))

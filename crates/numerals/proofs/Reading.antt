@@ -1,18 +1,17 @@
 -- Digits read one after the other make the number that they stand for. Assumes nothing.
 use mathlib.Core.Path.{_≡_, refl, sym, ap, _∙_}
-use mathlib.Core.Bool.{Bool, true, false, _&&_, cond}
+use mathlib.Core.Bool.{Bool, true, false, _&&_, cond, and-eq-true-iff}
 use mathlib.Core.List.{List, [], _∷_}
-use Prim.Native.Nat.{ℕ, suc, _+_, _-_, _*_, _/_, _^_, _≤_, _<_}
-use native.Mathlib.Nat.{pow-zero, pow-suc, mul-one, add-zero, add-mul, mul-assoc, mul-comm, add-assoc, le-mul-of-pos-right, le-div-iff-mul-le, div-lt-iff-lt-mul, pow-le-pow-right}
+use Prim.Native.Nat.{ℕ, suc, _+_, _-_, _*_, _^_, _≤_, _<_}
+use native.Mathlib.Nat.{pow-zero, pow-suc, mul-one, add-zero, add-mul, mul-assoc, mul-comm, add-assoc, le-mul-of-pos-right, pow-le-pow-right}
 use native.Mathlib.Omega.{arith}
-use borrow.Author.Tests.{lt-ltb, le-ltb, le-leb, lt-leb, leb-true, leb-false}
+use borrow.Author.Tests.{le-leb, lt-leb, leb-true, leb-false}
 use lib.Dec.{leb, ltb}
-use lib.ListN.{length, drop, getD, drop-of-length-le}
+use lib.ListN.{length}
 use Rattle.numerals.specs.declared.Digits.{Digits}
 use Rattle.numerals.specs.declared.Digits.the-variants.{Are, Wrong}
-use Rattle.numerals.specs.Digits.{digitOf, allDigits, numberOf}
-use Rattle.numerals.proofs.Places.{split}
-use Rattle.numerals.specs.Tables.{step, readOn}
+use Rattle.numerals.specs.Digits.{digitOf, allDigits, numeralValue}
+use Rattle.numerals.specs.Private.{ifDigits, atMost, readOn}
 
 -- ---- a byte, by where it lies
 
@@ -36,28 +35,15 @@ module _ (b : ℕ) where
   digit-lower h k = rw (le-leb 48 b (omega arith), lt-leb b 57 (omega arith), le-leb 65 b (omega arith), lt-leb b 70 (omega arith), le-leb 97 b h, le-leb b 102 k)
 
   pub digit-high : 102 < b → 16 ≡ digitOf b
-  digit-high h = rw (le-leb 48 b (omega arith), lt-leb b 57 (omega arith), le-leb 65 b (omega arith), lt-leb b 70 (omega arith), le-leb 97 b (omega arith), lt-leb b 102 h)
-
--- ---- one digit more
-
-module _ (base most v : ℕ) (B : 0 < base) where
-  pub tens-over : most / base < v → most < v * base
-  tens-over h = div-lt-iff-lt-mul B .0 h
-
-  pub tens-in : v ≤ most / base → v * base ≤ most
-  tens-in h = le-div-iff-mul-le B .0 h
-
-module _ (base most v b d : ℕ) (e : d ≡ digitOf b) where
-  pub step-no : base ≤ d → Wrong ≡ step base most v b
-  step-no h = rw (← e, le-ltb d base h)
-
-  pub step-over : d < base → most < v * base + d → Wrong ≡ step base most v b
-  step-over h k = rw (← e, lt-ltb d base h, lt-leb (v * base + d) most k)
-
-  pub step-is : d < base → v * base + d ≤ most → Are (v * base + d) ≡ step base most v b
-  step-is h k = rw (← e, lt-ltb d base h, le-leb (v * base + d) most k)
+  digit-high h =
+      rw (le-leb 48 b (omega arith), lt-leb b 57 (omega arith), le-leb 65 b (omega arith), lt-leb b 70 (omega arith), le-leb 97 b (omega arith), lt-leb b 102 h)
 
 -- ---- all digits
+
+-- what f makes of a number that a test picks
+pub if-picked : {X : Type 0} (t : Bool) (n : ℕ) (f : ℕ → X) (x : X) → ifDigits (cond t (Are n) Wrong) f x ≡ cond t (f n) x
+if-picked true n f x = refl
+if-picked false n f x = refl
 
 pub pow-above : (base n : ℕ) → 0 < base → 0 < base ^ n
 pow-above base n B = let l : base ^ 0 ≤ base ^ n = pow-le-pow-right B (omega arith) in let z = pow-zero base in omega arith
@@ -70,72 +56,41 @@ regroup base v d n r =
     ∙ sym (add-assoc (v * base * base ^ n) (d * base ^ n) r)
     ∙ ap (λ (p : ℕ). p + r) (sym (add-mul (v * base) d (base ^ n)))
 
--- an answer for v with digits behind it: those of the sum x, where t says that all are digits
-abbrev answer : ℕ → Bool → ℕ → Digits
-answer most t x = cond (t && leb x most) (Are x) Wrong
-
-over : (most : ℕ) (t : Bool) (x : ℕ) → most < x → Wrong ≡ answer most t x
+over : (most : ℕ) (t : Bool) (x : ℕ) → most < x → Wrong ≡ atMost most t x
 over most false x h = refl
 over most true x h = rw (lt-leb x most h)
 
-pub none-more : (base most v : ℕ) → v ≤ most → Are v ≡ readOn base most v []
-unfolding readOn allDigits numberOf
-none-more base most v h = rw (pow-zero base, mul-one v, add-zero v, le-leb v most h)
+pub read-is : (base most v : ℕ) (w : List ℕ) → 0 < base → v ≤ most →
+    readOn base most v w ≡ atMost most (allDigits base w) (v * base ^ length w + numeralValue base w)
+unfolding readOn allDigits numeralValue
+read-is base most v [] B h = rw (pow-zero base, mul-one v, add-zero v, le-leb v most h)
+read-is base most v (b ∷ w) B h =
+    rw (regroup base v (digitOf b) (length w) (numeralValue base w))
+    (go (v * base + digitOf b) (ltb (digitOf b) base) (leb (v * base + digitOf b) most) refl (read-is base most (v * base + digitOf b) w B))
+  where
+    all : ℕ → ℕ
+    all n = n * base ^ length w + numeralValue base w
 
-module _ (base most v b : ℕ) (w : List ℕ) (B : 0 < base) where
-  abbrev rest : ℕ → ℕ
-  rest n = n * base ^ length w + numberOf base w
+    go : (n : ℕ) (t u : Bool) → leb n most ≡ u → (n ≤ most → readOn base most n w ≡ atMost most (allDigits base w) (all n)) →
+        ifDigits (cond (t && u) (Are n) Wrong) (λ m. readOn base most m w) Wrong ≡ atMost most (t && allDigits base w) (all n)
+    go n false u e f = refl
+    go n true true e f = f (leb-true n most e)
+    go n true false e f =
+        let l : n ≤ n * base ^ length w = le-mul-of-pos-right n (pow-above base (length w) B) in
+        let m = leb-false n most e in
+        over most (allDigits base w) (all n) (omega arith)
 
-  pub more-is : readOn base most v (b ∷ w) ≡ cond (ltb (digitOf b) base) (readOn base most (v * base + digitOf b) w) Wrong
-  unfolding readOn allDigits numberOf
-  more-is = ap (λ (x : ℕ). answer most (ltb (digitOf b) base && allDigits base w) x) (regroup base v (digitOf b) (length w) (numberOf base w)) ∙ go (ltb (digitOf b) base)
-    where
-      go : (t : Bool) → answer most (t && allDigits base w) (rest (v * base + digitOf b)) ≡ cond t (answer most (allDigits base w) (rest (v * base + digitOf b))) Wrong
-      go true = refl
-      go false = refl
+-- ---- what an answer tells
 
-  too-much : most < v * base + digitOf b → Wrong ≡ readOn base most (v * base + digitOf b) w
-  unfolding readOn
-  too-much h =
-      let n = v * base + digitOf b in
-      let l : n ≤ n * base ^ length w = le-mul-of-pos-right n (pow-above base (length w) B) in
-      over most (allDigits base w) (rest n) (omega arith)
+pub both : (t u : Bool) → (t && u) ≡ true → (t ≡ true) × (u ≡ true)
+both t u e = and-eq-true-iff t u .0 e
 
-  pub more-wrong : Wrong ≡ step base most v b → Wrong ≡ readOn base most v (b ∷ w)
-  more-wrong e = go (ltb (digitOf b) base) (leb (v * base + digitOf b) most) refl refl e ∙ sym more-is
-    where
-      go : (t u : Bool) → ltb (digitOf b) base ≡ t → leb (v * base + digitOf b) most ≡ u → Wrong ≡ cond (t && u) (Are (v * base + digitOf b)) Wrong → Wrong ≡ cond t (readOn base most (v * base + digitOf b) w) Wrong
-      go false u p q e = refl
-      go true true p q e = absurd (let z : _≡_ {A = ℕ} 0 1 = cc in omega arith)
-      go true false p q e = too-much (leb-false (v * base + digitOf b) most q)
+pub at-most-tells : (most : ℕ) (t : Bool) (x n : ℕ) → atMost most t x ≡ Are n → n ≤ most
+at-most-tells most t x n e = go (t && leb x most) refl e
+  where
+    go : (u : Bool) → (t && leb x most) ≡ u → cond u (Are x) Wrong ≡ Are n → n ≤ most
+    go true f e = let l = leb-true x most (both t (leb x most) f .1) in let g : x ≡ n = cc in omega arith
+    go false f e = absurd (let z : _≡_ {A = ℕ} 0 1 = cc in omega arith)
 
-  module _ (n : ℕ) (e : Are n ≡ step base most v b) where
-    facts : (ltb (digitOf b) base ≡ true) × ((n ≡ v * base + digitOf b) × (n ≤ most))
-    facts = go (ltb (digitOf b) base) (leb (v * base + digitOf b) most) refl refl e
-      where
-        go : (t u : Bool) → ltb (digitOf b) base ≡ t → leb (v * base + digitOf b) most ≡ u → Are n ≡ cond (t && u) (Are (v * base + digitOf b)) Wrong → (t ≡ true) × ((n ≡ v * base + digitOf b) × (n ≤ most))
-        go false u p q e = absurd (let z : _≡_ {A = ℕ} 0 1 = cc in omega arith)
-        go true false p q e = absurd (let z : _≡_ {A = ℕ} 0 1 = cc in omega arith)
-        go true true p q e = let f : n ≡ v * base + digitOf b = cc in let l = leb-true (v * base + digitOf b) most q in (refl, (f, omega arith))
-
-    pub more-fits : n ≤ most
-    more-fits = facts .1 .1
-
-    pub more-next : readOn base most v (b ∷ w) ≡ readOn base most n w
-    more-next = more-is ∙ rw (facts .0) (ap (λ (k : ℕ). readOn base most k w) (sym (facts .1 .0)))
-
--- ---- a loop over the digits of w, at place i, with v read so far
-
-module _ (base most v : ℕ) (w : List ℕ) (i : ℕ) where
-  pub at-end : length w ≤ i → v ≤ most → Are v ≡ readOn base most v (drop i w)
-  at-end l h = rw (drop-of-length-le w {i = i} l) (none-more base most v h)
-
-  module _ (B : 0 < base) (l : i < length w) (s : Digits) (e : s ≡ step base most v (getD w i 0)) where
-    pub at-wrong : s ≡ Wrong → Wrong ≡ readOn base most v (drop i w)
-    at-wrong f = rw (split w i l) (more-wrong base most v (getD w i 0) (drop (i + 1) w) B (sym f ∙ e))
-
-    pub at-fits : (n : ℕ) → s ≡ Are n → n ≤ most
-    at-fits n f = more-fits base most v (getD w i 0) (drop (i + 1) w) B n (sym f ∙ e)
-
-    pub at-next : (n : ℕ) → s ≡ Are n → readOn base most n (drop (i + 1) w) ≡ readOn base most v (drop i w)
-    at-next n f = rw (split w i l) (sym (more-next base most v (getD w i 0) (drop (i + 1) w) B n (sym f ∙ e)))
+pub read-fits : (base most v n : ℕ) (w : List ℕ) → 0 < base → v ≤ most → readOn base most v w ≡ Are n → n ≤ most
+read-fits base most v n w B h e = at-most-tells most (allDigits base w) (v * base ^ length w + numeralValue base w) n (rw (read-is base most v w B h) at e)

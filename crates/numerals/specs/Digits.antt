@@ -19,9 +19,9 @@ allDigits base [] = true
 allDigits base (b ∷ w) = ltb (digitOf b) base && allDigits base w
 
 -- the number that digits stand for: a digit with n digits behind it counts base ^ n times
-unfoldable pub numberOf : ℕ → List ℕ → ℕ
-numberOf base [] = 0
-numberOf base (b ∷ w) = digitOf b * base ^ length w + numberOf base w
+unfoldable pub numeralValue : ℕ → List ℕ → ℕ
+numeralValue base [] = 0
+numeralValue base (b ∷ w) = digitOf b * base ^ length w + numeralValue base w
 
 -- one or more digits, and nothing else
 unfoldable pub isNumeral : ℕ → List ℕ → Bool

@@ -3,5 +3,6 @@ pub mod Words
 pub mod Numbers
 pub mod Integers
 pub mod Values
-pub mod Tables
+pub mod Private
+pub mod Laws
 pub mod Examples

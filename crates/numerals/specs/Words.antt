@@ -1,18 +1,11 @@
--- Parts of a word: its sign, its point, and whether it is a given word.
-use Prim.Native.Nat.{ℕ, suc}
+-- Parts of a word: its sign.
+use Prim.Native.Nat.{ℕ}
 use mathlib.Core.List.{List, [], _∷_}
-use mathlib.Core.Bool.{Bool, true, false, _&&_, cond}
+use mathlib.Core.Bool.{Bool, false, cond}
 use lib.Dec.{eqb}
 use lib.ListN.{drop}
 
--- the same bytes
-unfoldable pub sameWord : List ℕ → List ℕ → Bool
-sameWord [] [] = true
-sameWord [] (b ∷ v) = false
-sameWord (a ∷ w) [] = false
-sameWord (a ∷ w) (b ∷ v) = eqb a b && sameWord w v
-
--- it begins with '-'
+-- it begins with '-', byte 45
 abbrev pub hasMinus : List ℕ → Bool
 hasMinus [] = false
 hasMinus (b ∷ w) = eqb b 45
@@ -20,8 +13,3 @@ hasMinus (b ∷ w) = eqb b 45
 -- the word without its '-'
 abbrev pub unsigned : List ℕ → List ℕ
 unsigned w = cond (hasMinus w) (drop 1 w) w
-
--- the place of the first point, or the length where there is none
-unfoldable pub pointAt : List ℕ → ℕ
-pointAt [] = 0
-pointAt (b ∷ w) = cond (eqb b 46) 0 (suc (pointAt w))

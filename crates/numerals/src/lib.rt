@@ -1,6 +1,6 @@
 // Numbers as a script writes them. A word is a slice of bytes, and is read as a number, as a signed
 // number or as a float. specs/Numbers, Integers and Values say what is read as what, specs/Examples
-// gives words, and specs/Steps has what only the private functions promise.
+// gives words, and specs/Private has what only the private functions promise.
 pub mod answers;
 
 use answers::Number;
@@ -13,10 +13,10 @@ ghost use lib.IntN.{pos, negℤ};
 ghost use lib.Ieee.{binary64, round};
 ghost use Rattle.numerals.specs.Digits.{digitOf};
 ghost use Rattle.numerals.specs.Numbers.{numberIn};
-ghost use Rattle.numerals.specs.Integers.{signedAs, signedOf};
-ghost use Rattle.numerals.specs.Words.{sameWord, hasMinus, unsigned, pointAt};
-ghost use Rattle.numerals.specs.Values.{nameOf, patternOf, decimalAs, firstOf, valueOf};
-ghost use Rattle.numerals.specs.Tables.{step, readOn, numeralIn, wholeOf, fractionOf, pointedOf, negatedOf};
+ghost use Rattle.numerals.specs.Integers.{signedAs, signedIn};
+ghost use Rattle.numerals.specs.Words.{hasMinus, unsigned};
+ghost use Rattle.numerals.specs.Values.{nameOf, patternOf, decimalAs, firstOf, valueIn};
+ghost use Rattle.numerals.specs.Private.{step, readOn, numeralIn, wholeDecimal, fractionOf, pointedOf, negatedOf};
 
 // The largest number of 15 digits.
 const LARGEST: u64 = 999_999_999_999_999;
@@ -60,7 +60,7 @@ fn one_more(base: u64, v: u64, b: u8, most: u64) -> Digits
 
 // The number `start` with the digits w behind it, of at most `most`.
 fn digits_from(base: u64, start: u64, w: &[u8], most: u64) -> Digits
-    requires { ⌜ 0 < base ⌝ ∗ ⌜ start ≤ most ⌝ }
+    requires { ⌜ 0 < base ⌝ }
     ensures { λ res. ⌜ res ≡ readOn base most start (now (w .entry)) ⌝ }
 {
     let mut v = start;
@@ -110,6 +110,13 @@ fn has_minus(w: &[u8]) -> bool
     w[0] == b'-'
 }
 
+// A word without its '-'.
+fn unsigned(w: &[u8]) -> &[u8]
+    ensures { λ res. ⌜ now res ≡ unsigned (now (w .entry)) ⌝ }
+{
+    if has_minus(w) { &w[1..] } else { w }
+}
+
 // -n, at the wider type, where 2147483648 can be negated.
 fn minus(n: u32) -> i32
     requires { ⌜ n ≤ 2147483648 ⌝ }
@@ -145,43 +152,27 @@ fn positive(w: &[u8]) -> Signed
 
 // A number with or without a '-' in front, from -2147483648 to 2147483647.
 pub fn signed(w: &[u8]) -> Signed
-    ensures { λ res. ⌜ res ≡ signedOf (now (w .entry)) ⌝ }
+    ensures { λ res. ⌜ res ≡ signedIn (now (w .entry)) ⌝ }
 {
+    let size = unsigned(w);
     if has_minus(w) {
-        negative(&w[1..])
+        negative(size)
     } else {
-        positive(w)
+        positive(size)
     }
-}
-
-// Whether w has the bytes of v, and no others.
-fn is_word(w: &[u8], v: &[u8]) -> bool
-    ensures { λ res. ⌜ res ≡ sameWord (now (w .entry)) (now (v .entry)) ⌝ }
-{
-    if w.len() != v.len() {
-        return false;
-    }
-    let mut i = 0;
-    while i < w.len() {
-        if w[i] != v[i] {
-            return false;
-        }
-        i += 1;
-    }
-    true
 }
 
 // The floats that have a name.
 fn name(w: &[u8]) -> Value
     ensures { λ res. ⌜ res ≡ nameOf (now (w .entry)) ⌝ }
 {
-    if is_word(w, b"nan") {
+    if check::same(w, b"nan") {
         return Value::Is(0.0 / 0.0);
     }
-    if is_word(w, b"inf") {
+    if check::same(w, b"inf") {
         return Value::Is(1.0 / 0.0);
     }
-    if is_word(w, b"-inf") {
+    if check::same(w, b"-inf") {
         return Value::Is(-1.0 / 0.0);
     }
     Value::Wrong
@@ -194,10 +185,7 @@ fn pattern(w: &[u8]) -> Value
     if w.len() != 18 {
         return Value::Wrong;
     }
-    if w[0] != b'0' {
-        return Value::Wrong;
-    }
-    if w[1] != b'x' {
+    if !check::same(&w[..2], b"0x") {
         return Value::Wrong;
     }
     let found = digits_from(16, 0, &w[2..], 0xffff_ffff_ffff_ffff);
@@ -205,20 +193,6 @@ fn pattern(w: &[u8]) -> Value
         Digits::Are(n) => Value::Is(number_forms::from_pattern(n)),
         Digits::Wrong => Value::Wrong,
     }
-}
-
-// The place of the first point, or the length where there is none.
-fn find_point(w: &[u8]) -> usize
-    ensures { λ res. ⌜ res ≡ pointAt (now (w .entry)) ⌝ }
-{
-    let mut i = 0;
-    while i < w.len() {
-        if w[i] == b'.' {
-            return i;
-        }
-        i += 1;
-    }
-    i
 }
 
 // 10 to the power k.
@@ -247,7 +221,7 @@ fn quotient(n: u64, k: usize) -> f64
 
 // A decimal without a point.
 fn whole(w: &[u8]) -> Value
-    ensures { λ res. ⌜ res ≡ wholeOf (now (w .entry)) ⌝ }
+    ensures { λ res. ⌜ res ≡ wholeDecimal (now (w .entry)) ⌝ }
 {
     let found = numeral(w, LARGEST);
     match found {
@@ -290,7 +264,7 @@ fn pointed(w: &[u8], v: &[u8]) -> Value
 fn decimal(w: &[u8]) -> Value
     ensures { λ res. ⌜ res ≡ decimalAs false (now (w .entry)) ⌝ }
 {
-    let p = find_point(w);
+    let p = words::place(w, b'.');
     if w.len() <= p {
         return whole(w);
     }
@@ -312,10 +286,8 @@ fn negated(v: Value) -> Value
 fn signed_decimal(w: &[u8]) -> Value
     ensures { λ res. ⌜ res ≡ decimalAs (hasMinus (now (w .entry))) (unsigned (now (w .entry))) ⌝ }
 {
-    if has_minus(w) {
-        return negated(decimal(&w[1..]));
-    }
-    decimal(w)
+    let size = decimal(unsigned(w));
+    if has_minus(w) { negated(size) } else { size }
 }
 
 // The first of two values that is one.
@@ -330,7 +302,7 @@ fn either(a: Value, b: Value) -> Value
 
 // A float: its name, its bit pattern or a decimal.
 pub fn value(w: &[u8]) -> Value
-    ensures { λ res. ⌜ res ≡ valueOf (now (w .entry)) ⌝ }
+    ensures { λ res. ⌜ res ≡ valueIn (now (w .entry)) ⌝ }
 {
     let other = either(pattern(w), signed_decimal(w));
     either(name(w), other)

@@ -4,14 +4,15 @@ use mathlib.Core.List.{List, [], _∷_, _++_}
 use Prim.Native.Nat.{ℕ, zero, suc, _+_, _≤_, _<_}
 use native.Mathlib.Numerals.{add-one}
 use native.Mathlib.Omega.{arith}
-use lib.ListN.{getD, length}
+use lib.ListN.{length}
 use lib.Ieee.{Float, nan}
 use Rattle.bench.specs.declared.Reading.{Reading}
 use Rattle.bench.specs.declared.Bench.{Bench}
-use Rattle.bench.specs.Holds.{powerOn}
-use Rattle.claim.specs.Lists.{Call, event, turn, reading, send, refresh, display, next, reply, after, replies}
+use Rattle.calls.specs.Calls.{Call, event, turn, reading, send, refresh, display, next, reply}
+use Rattle.claim.specs.Lists.{after, replies}
 use Rattle.replay.specs.declared.Served.{Served}
-use Rattle.replay.specs.Coded.{callOf, callsTo, Coding, held, last, servedBy}
+use Rattle.replay.specs.Coded.{callOf, callsTo, Coding, replyAs, last, servedBy}
+use Rattle.replay.specs.Private.{Held, callAt}
 
 -- ---- what the calls of a list leave and answer, with one more
 
@@ -19,23 +20,12 @@ after-one : (cs : List Call) (b : Bench) (c : Call) → after b (cs ++ (c ∷ []
 after-one [] b c = refl
 after-one (d ∷ cs) b c = after-one cs (next b d) c
 
-last-one : (cs : List Call) (b : Bench) (c : Call) → last (replies b (cs ++ (c ∷ []))) ≡ held (reply (after b cs) c)
+last-one : (cs : List Call) (b : Bench) (c : Call) → last (replies b (cs ++ (c ∷ []))) ≡ replyAs (reply (after b cs) c)
 last-one [] b c = refl
 last-one (d ∷ []) b c = refl
 last-one (d ∷ (e ∷ cs)) b c = last-one (e ∷ cs) (next b d) c
 
 -- ---- the calls that the lists hold
-
--- the call at a place
-abbrev callAt : ℕ → List ℕ → List ℕ → List ℕ → List Float → Call
-callAt i kinds numbers counts values = callOf (getD kinds i 0) (getD numbers i 0) (getD counts i 0) (getD values i nan)
-
--- every list goes on at place i
-pub record Held (i : ℕ) (kinds numbers counts : List ℕ) (values : List Float) : Type 0 where
-  pub in-kinds : i < length kinds
-  pub in-numbers : i < length numbers
-  pub in-counts : i < length counts
-  pub in-values : i < length values
 
 -- one call more
 calls-one : (i : ℕ) (k w c : List ℕ) (x : List Float) → Held i k w c x → callsTo (suc i) k w c x ≡ callsTo i k w c x ++ (callAt i k w c x ∷ [])
@@ -77,72 +67,72 @@ calls-all (suc m) (suc n) (k ∷ ks) (w ∷ ws) (c ∷ cs) (x ∷ xs) le h =
     })))
 
 -- ---- one call more was made on the bench that the first i left, and gave r
-module _ (i : ℕ) (k w c : List ℕ) (x : List Float) (b : Bench) (r : Served)
-    (more : Held i k w c x) (made : b ≡ after powerOn (callsTo i k w c x)) (gave : r ≡ servedBy b (callAt i k w c x)) where
+module _ (start : Bench) (i : ℕ) (k w c : List ℕ) (x : List Float) (b : Bench) (r : Served)
+    (more : Held i k w c x) (made : b ≡ after start (callsTo i k w c x)) (gave : r ≡ servedBy b (callAt i k w c x)) where
   one-more : callsTo (i + 1) k w c x ≡ callsTo i k w c x ++ (callAt i k w c x ∷ [])
   one-more = rw (add-one i) (calls-one i k w c x more)
 
-  pub served-bench : r .bench ≡ after powerOn (callsTo (i + 1) k w c x)
+  pub served-bench : r .bench ≡ after start (callsTo (i + 1) k w c x)
   unfolding servedBy
   served-bench =
       ap (λ (t : Served). t .bench) gave
       ∙ (ap (λ (d : Bench). next d (callAt i k w c x)) made
-      ∙ (sym (after-one (callsTo i k w c x) powerOn (callAt i k w c x))
-      ∙ sym (ap (after powerOn) one-more)))
+      ∙ (sym (after-one (callsTo i k w c x) start (callAt i k w c x))
+      ∙ sym (ap (after start) one-more)))
 
-  pub served-reply : r .reply ≡ last (replies powerOn (callsTo (i + 1) k w c x))
+  pub served-reply : r .reply ≡ last (replies start (callsTo (i + 1) k w c x))
   unfolding servedBy
   served-reply =
       ap (λ (t : Served). t .reply) gave
-      ∙ (ap (λ (d : Bench). held (reply d (callAt i k w c x))) made
-      ∙ (sym (last-one (callsTo i k w c x) powerOn (callAt i k w c x))
-      ∙ sym (ap (λ (cs : List Call). last (replies powerOn cs)) one-more)))
+      ∙ (ap (λ (d : Bench). replyAs (reply d (callAt i k w c x))) made
+      ∙ (sym (last-one (callsTo i k w c x) start (callAt i k w c x))
+      ∙ sym (ap (λ (cs : List Call). last (replies start cs)) one-more)))
 
 -- ---- every list of calls is held by some lists of numbers
 
-abbrev kindOf : Call → ℕ
-kindOf (event word) = 0
-kindOf (turn knob n) = 1
-kindOf (send s) = 2
-kindOf (refresh s) = 3
-kindOf (reading (Reading.Altitude x)) = 4
-kindOf (reading (Reading.Airspeed x)) = 5
-kindOf (reading (Reading.VerticalSpeed x)) = 6
-kindOf (reading (Reading.Roll x)) = 7
-kindOf (reading (Reading.Pitch x)) = 8
-kindOf (reading (Reading.Heading x)) = 9
-kindOf (display s) = 10
+abbrev codedKind : Call → ℕ
+codedKind (event word) = 0
+codedKind (turn knob n) = 1
+codedKind (send s) = 2
+codedKind (refresh s) = 3
+codedKind (reading (Reading.Altitude x)) = 4
+codedKind (reading (Reading.Airspeed x)) = 5
+codedKind (reading (Reading.VerticalSpeed x)) = 6
+codedKind (reading (Reading.Roll x)) = 7
+codedKind (reading (Reading.Pitch x)) = 8
+codedKind (reading (Reading.Heading x)) = 9
+codedKind (display s) = 10
 
-abbrev numberOf : Call → ℕ
-numberOf (event word) = word
-numberOf (turn knob n) = knob
-numberOf (send s) = s
-numberOf (refresh s) = s
-numberOf (reading r) = 0
-numberOf (display s) = s
+abbrev codedNumber : Call → ℕ
+codedNumber (event word) = word
+codedNumber (turn knob n) = knob
+codedNumber (send s) = s
+codedNumber (refresh s) = s
+codedNumber (reading r) = 0
+codedNumber (display s) = s
 
-abbrev countOf : Call → ℕ
-countOf (event word) = 0
-countOf (turn knob n) = n
-countOf (send s) = 0
-countOf (refresh s) = 0
-countOf (reading r) = 0
-countOf (display s) = 0
+abbrev codedCount : Call → ℕ
+codedCount (event word) = 0
+codedCount (turn knob n) = n
+codedCount (send s) = 0
+codedCount (refresh s) = 0
+codedCount (reading r) = 0
+codedCount (display s) = 0
 
-abbrev valueOf : Call → Float
-valueOf (event word) = nan
-valueOf (turn knob n) = nan
-valueOf (send s) = nan
-valueOf (refresh s) = nan
-valueOf (reading (Reading.Altitude x)) = x
-valueOf (reading (Reading.Airspeed x)) = x
-valueOf (reading (Reading.VerticalSpeed x)) = x
-valueOf (reading (Reading.Roll x)) = x
-valueOf (reading (Reading.Pitch x)) = x
-valueOf (reading (Reading.Heading x)) = x
-valueOf (display s) = nan
+abbrev codedFloat : Call → Float
+codedFloat (event word) = nan
+codedFloat (turn knob n) = nan
+codedFloat (send s) = nan
+codedFloat (refresh s) = nan
+codedFloat (reading (Reading.Altitude x)) = x
+codedFloat (reading (Reading.Airspeed x)) = x
+codedFloat (reading (Reading.VerticalSpeed x)) = x
+codedFloat (reading (Reading.Roll x)) = x
+codedFloat (reading (Reading.Pitch x)) = x
+codedFloat (reading (Reading.Heading x)) = x
+codedFloat (display s) = nan
 
-call-coded : (c : Call) → callOf (kindOf c) (numberOf c) (countOf c) (valueOf c) ≡ c
+call-coded : (c : Call) → callOf (codedKind c) (codedNumber c) (codedCount c) (codedFloat c) ≡ c
 call-coded (event word) = refl
 call-coded (turn knob n) = refl
 call-coded (send s) = refl
@@ -161,9 +151,9 @@ coding [] = record { kinds = []; numbers = []; counts = []; values = []; holds =
 coding (c ∷ cs) =
     let rest = coding cs in
     record {
-      kinds = kindOf c ∷ rest .kinds;
-      numbers = numberOf c ∷ rest .numbers;
-      counts = countOf c ∷ rest .counts;
-      values = valueOf c ∷ rest .values;
+      kinds = codedKind c ∷ rest .kinds;
+      numbers = codedNumber c ∷ rest .numbers;
+      counts = codedCount c ∷ rest .counts;
+      values = codedFloat c ∷ rest .values;
       holds = ap (λ (d : Call). d ∷ callsTo (length cs) (rest .kinds) (rest .numbers) (rest .counts) (rest .values)) (call-coded c) ∙ ap (λ (l : List Call). c ∷ l) (rest .holds);
     }

@@ -1,6 +1,6 @@
 -- Lists of calls held as lists of numbers, and what a run of such a list answers. Document 01, 'The claim over a list of calls'.
 use mathlib.Core.Path.{_≡_}
-use mathlib.Core.Bool.{cond}
+use mathlib.Core.Bool.{true, false, cond}
 use mathlib.Core.List.{List, [], _∷_}
 use Prim.Native.Nat.{ℕ, zero, suc}
 use lib.Dec.{eqb}
@@ -8,9 +8,10 @@ use lib.ListN.{length}
 use lib.Ieee.{Float}
 use Rattle.bench.specs.declared.Reading.{Reading}
 use Rattle.bench.specs.declared.Bench.{Bench}
-use Rattle.bench.specs.Holds.{powerOn}
-use Rattle.claim.specs.Lists.{Call, event, turn, reading, send, refresh, display, Reply, done, told, shows, next, reply, after, replies}
-use Rattle.claim.specs.Claim.{Claim}
+use Rattle.bench.specs.Sound.{sound}
+use Rattle.calls.specs.Calls.{Call, event, turn, reading, send, refresh, display, next, Reply, plain, told, shows, reply}
+use Rattle.claim.specs.Lists.{after, replies}
+use Rattle.claim.specs.Claim.{ClaimFrom, Refused}
 use Rattle.replay.specs.declared.LastReply.{LastReply}
 use Rattle.replay.specs.declared.Served.{Served}
 
@@ -52,23 +53,24 @@ pub record Coding (cs : List Call) : Type 0 where
 -- ---- answers
 
 -- a reply as the code holds it
-abbrev pub held : Reply → LastReply
-held (done refusal) = LastReply.Done refusal
-held (told refusal n) = LastReply.Told refusal n
-held (shows refusal d) = LastReply.Shown refusal d
+abbrev pub replyAs : Reply → LastReply
+replyAs (plain refusal) = LastReply.Done refusal
+replyAs (told refusal n) = LastReply.Told refusal n
+replyAs (shows refusal d) = LastReply.Shown refusal d
 
 -- the last reply; Nothing if there was none
 abbrev pub last : List Reply → LastReply
 last [] = LastReply.Nothing
-last (r ∷ []) = held r
+last (r ∷ []) = replyAs r
 last (r ∷ (s ∷ more)) = last (s ∷ more)
 
 -- one call by the rules
 unfoldable pub servedBy : Bench → Call → Served
-servedBy b c = record { bench = next b c; reply = held (reply b c) }
+servedBy b c = record { bench = next b c; reply = replyAs (reply b c) }
 
--- ---- a run of the calls cs from power-on answered r: the bench and the last reply are those of the rules, and demand 3 holds of the rules
-pub record RanTo (cs : List Call) (r : Served) : Type 0 where
-  pub same-bench : r .bench ≡ after powerOn cs
-  pub same-reply : r .reply ≡ last (replies powerOn cs)
-  pub rules : Claim cs
+-- ---- a run of the calls cs from a bench answered r: the bench and the last reply are those of the rules, and demand 3 holds of the rules
+pub record RanTo (start : Bench) (cs : List Call) (r : Served) : Type 0 where
+  pub same-bench : r .bench ≡ after start cs
+  pub same-reply : r .reply ≡ last (replies start cs)
+  pub rules : sound start ≡ true → ClaimFrom start cs
+  pub refused : sound start ≡ false → Refused start cs

@@ -2,11 +2,13 @@
 -- says of a result is what the entry's own crate passes on to its callers (`Learnt`), so that a weaker contract allows more runs. Definitions and the statement only;
 -- the proof is in proofs/.
 use mathlib.Core.Path.{_≡_}
+use mathlib.Core.Bool.{true, false}
 use mathlib.Core.List.{List, [], _∷_}
 use Prim.Native.Nat.{ℕ}
 use Rattle.bench.specs.declared.Reading.{Reading}
 use Rattle.bench.specs.declared.Bench.{Bench}
 use Rattle.bench.specs.Holds.{powerOn}
+use Rattle.bench.specs.Sound.{sound}
 use Rattle.bench.proofs.power_on.Statement.{statement as power-on-statement}
 use Rattle.bench.proofs.power_on.Reads as power-on-reads
 use Rattle.calls.specs.declared.answers.Answer.{Answer}
@@ -24,8 +26,9 @@ use Rattle.calls.proofs.reading.Reads as reading-reads
 use Rattle.calls.proofs.send.Reads as send-reads
 use Rattle.calls.proofs.refresh.Reads as refresh-reads
 use Rattle.calls.proofs.display.Reads as display-reads
-use Rattle.claim.specs.Lists.{Call, event, turn, reading, send, refresh, display, Reply, done, told, shows, after, replies}
-use Rattle.claim.specs.Claim.{Claim}
+use Rattle.calls.specs.Calls.{Call, event, turn, reading, send, refresh, display, Reply, plain, told, shows}
+use Rattle.claim.specs.Lists.{after, replies}
+use Rattle.claim.specs.Claim.{Claim, ClaimFrom, Refused}
 
 -- ---- what each entry's contract says of a result
 
@@ -58,29 +61,39 @@ pub data Run : Bench → List Call → Bench → List Reply → Type 0 where
   called-event : {b d : Bench} {word : ℕ} {cs : List Call} {xs : List Reply} (r : EventAnswer) → EventGives b word r → Run (r .bench) cs d xs
       → Run b (event word ∷ cs) d (told (r .refusal) (r .event) ∷ xs)
   called-turn : {b d : Bench} {knob n : ℕ} {cs : List Call} {xs : List Reply} (r : Answer) → TurnGives b knob n r → Run (r .bench) cs d xs
-      → Run b (turn knob n ∷ cs) d (done (r .refusal) ∷ xs)
+      → Run b (turn knob n ∷ cs) d (plain (r .refusal) ∷ xs)
   called-reading : {b d : Bench} {x : Reading} {cs : List Call} {xs : List Reply} (r : Answer) → ReadingGives b x r → Run (r .bench) cs d xs
-      → Run b (reading x ∷ cs) d (done (r .refusal) ∷ xs)
+      → Run b (reading x ∷ cs) d (plain (r .refusal) ∷ xs)
   called-send : {b d : Bench} {s : ℕ} {cs : List Call} {xs : List Reply} (r : Answer) → SendGives b s r → Run (r .bench) cs d xs
-      → Run b (send s ∷ cs) d (done (r .refusal) ∷ xs)
+      → Run b (send s ∷ cs) d (plain (r .refusal) ∷ xs)
   called-refresh : {b d : Bench} {s : ℕ} {cs : List Call} {xs : List Reply} (r : Answer) → RefreshGives b s r → Run (r .bench) cs d xs
-      → Run b (refresh s ∷ cs) d (done (r .refusal) ∷ xs)
+      → Run b (refresh s ∷ cs) d (plain (r .refusal) ∷ xs)
   called-display : {b d : Bench} {s : ℕ} {cs : List Call} {xs : List Reply} (r : DisplayAnswer) → DisplayGives b s r → Run (r .bench) cs d xs
       → Run b (display s ∷ cs) d (shows (r .refusal) (r .display) ∷ xs)
 
 -- ---- demand 3 of the code
 
-pub record Demand (cs : List Call) : Type 0 where
-  -- "After the list the bench and every answer are those of document 01's rules": every run from power-on. Equal floats are the same float: the two zeros differ
-  pub same-bench : (p d : Bench) (xs : List Reply) → PowerOnGives p → Run p cs d xs → d ≡ after powerOn cs
-  pub same-replies : (p d : Bench) (xs : List Reply) → PowerOnGives p → Run p cs d xs → xs ≡ replies powerOn cs
+-- of a list of calls from a bench
+pub record DemandFrom (start : Bench) (cs : List Call) : Type 0 where
+  -- "After the list the bench and every answer are those of document 01's rules": of every run. Equal floats are the same float: the two zeros differ
+  pub same-bench : (d : Bench) (xs : List Reply) → Run start cs d xs → d ≡ after start cs
+  pub same-replies : (d : Bench) (xs : List Reply) → Run start cs d xs → xs ≡ replies start cs
   -- there is such a run
-  pub starts : PowerOnGives powerOn
-  pub runs : Run powerOn cs (after powerOn cs) (replies powerOn cs)
+  pub runs : Run start cs (after start cs) (replies start cs)
   -- "and all of the following holds"
+  pub rules : sound start ≡ true → ClaimFrom start cs
+  -- from an unsound bench every call is answered 1, and the bench stays
+  pub refused : sound start ≡ false → Refused start cs
+
+-- of a list of calls from power-on
+pub record Demand (cs : List Call) : Type 0 where
+  -- the first call gets what the contract of power-on allows, and that is the rules' bench
+  pub starts : PowerOnGives powerOn
+  pub starts-only : (p : Bench) → PowerOnGives p → p ≡ powerOn
+  pub from-there : DemandFrom powerOn cs
   pub rules : Claim cs
 
--- the entries meet the contracts that runs go by, and every list of calls meets the demand
+-- the entries meet the contracts that runs go by, and every list of calls meets the demand, from power-on and from any bench
 pub record Delivered : Type 2 where
   pub power-on-meets : {M : Type 1} → power-on-statement M
   pub event-meets : {M : Type 1} → event-statement M
@@ -90,3 +103,4 @@ pub record Delivered : Type 2 where
   pub refresh-meets : {M : Type 1} → refresh-statement M
   pub display-meets : {M : Type 1} → display-statement M
   pub every-list : (cs : List Call) → Demand cs
+  pub every-start : (start : Bench) (cs : List Call) → DemandFrom start cs

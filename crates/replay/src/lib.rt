@@ -1,8 +1,8 @@
-// Lists of calls, held as slices of numbers, run through the calls of the bench from power-on.
+// Lists of calls, held as slices of numbers, run through the calls of the bench from any bench.
 ghost use mathlib.Core.Path.{_≡_};
-ghost use Prim.Native.Nat.{ℕ, _≤_, _<_};
-ghost use Rattle.claim.specs.Lists.{event, turn, reading, send, refresh, display};
+ghost use Rattle.calls.specs.Calls.{event, turn, reading, send, refresh, display};
 ghost use Rattle.replay.specs.Coded.{callOf, callsTo, servedBy, RanTo};
+ghost use Rattle.replay.specs.Private.{Least, Held, Shortest, callAt};
 use bench::Bench;
 use bench::Reading;
 use calls::answers::Display;
@@ -109,21 +109,49 @@ fn serve(b: Bench, kind: u32, number: u32, count: u8, x: f64) -> Served
 }
 
 fn least(a: usize, b: usize) -> usize
-    ensures { λ res. ⌜ (res ≤ a) × ((res ≤ b) × ((i : ℕ) → i < a → i < b → i < res)) ⌝ }
+    ensures { λ res. ⌜ Least a b res ⌝ }
 {
     if a <= b { a } else { b }
 }
 
-// The first n calls that the slices hold, one after the other from power-on; all of them, as many as
-// the shortest slice holds, if n is larger.
-pub fn run_to(kinds: &[u32], numbers: &[u32], counts: &[u8], values: &[f64], n: usize) -> Served
-    ensures { λ res. ⌜ RanTo (callsTo n (now (kinds .entry)) (now (numbers .entry)) (now (counts .entry)) (now (values .entry))) res ⌝ }
+// How many calls the slices hold: as many as the shortest has places.
+fn shortest(kinds: &[u32], numbers: &[u32], counts: &[u8], values: &[f64]) -> usize
+    ensures { λ res. ⌜ Shortest (now (kinds .entry)) (now (numbers .entry)) (now (counts .entry)) (now (values .entry)) res ⌝ }
 {
     let in_both = least(kinds.len(), numbers.len());
     let in_three = least(in_both, counts.len());
-    let in_all = least(in_three, values.len());
+    least(in_three, values.len())
+}
+
+// The call at a place of the slices.
+fn serve_at(
+    b: Bench,
+    kinds: &[u32],
+    numbers: &[u32],
+    counts: &[u8],
+    values: &[f64],
+    i: usize,
+) -> Served
+    requires { ⌜ Held i (now kinds) (now numbers) (now counts) (now values) ⌝ }
+    ensures { λ res. ⌜ res ≡ servedBy b (callAt i (now (kinds .entry)) (now (numbers .entry)) (now (counts .entry)) (now (values .entry))) ⌝ }
+{
+    serve(b, kinds[i], numbers[i], counts[i], values[i])
+}
+
+// The first n calls that the slices hold, one after the other from a bench; all of them, as many as
+// the shortest slice holds, if n is larger.
+pub fn run_to(
+    start: Bench,
+    kinds: &[u32],
+    numbers: &[u32],
+    counts: &[u8],
+    values: &[f64],
+    n: usize,
+) -> Served
+    ensures { λ res. ⌜ RanTo start (callsTo n (now (kinds .entry)) (now (numbers .entry)) (now (counts .entry)) (now (values .entry))) res ⌝ }
+{
+    let in_all = shortest(kinds, numbers, counts, values);
     let end = least(n, in_all);
-    let start = bench::power_on();
     let mut s = Served {
         bench: start,
         reply: LastReply::Nothing,
@@ -131,7 +159,7 @@ pub fn run_to(kinds: &[u32], numbers: &[u32], counts: &[u8], values: &[f64], n: 
     let mut i = 0;
     while i < end {
         let b = s.bench;
-        s = serve(b, kinds[i], numbers[i], counts[i], values[i]);
+        s = serve_at(b, kinds, numbers, counts, values, i);
         i += 1;
     }
     s

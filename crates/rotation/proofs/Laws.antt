@@ -1,4 +1,4 @@
--- What a caller may use of the definitions in specs/Rotation.antt without looking into them. Assumes nothing.
+-- The laws of specs/Laws.antt, each as a lemma for callers too: by cases of the sign, and by which of two naturals is the larger (`sub-case`). Assumes nothing.
 use mathlib.Core.Path.{_≡_, refl, sym, ap, subst}
 use mathlib.Core.Bool.{Bool, true, false, cond, true≢false}
 use Prim.Native.Nat.{ℕ, zero, suc, _+_, _-_, _*_, _/_, _%_, _≤_, _<_}
@@ -9,6 +9,7 @@ use lib.Dec.{T, leb→le, le→leb}
 use lib.IntN.{ℤ, pos, negsuc, negℤ, _+ℤ_, _-ℤ_, _*ℤ_}
 use lib.Signed.{leZ, _≤ℤ_, leZ-yes, ≤ℤ-refl}
 use Rattle.rotation.specs.Rotation.{modOf, clampOf, rotationOf}
+use Rattle.rotation.specs.Laws.{RotationLaws}
 use Rattle.rotation.proofs.Signed.{sub-case, turned}
 
 -- ---- the order of ℤ
@@ -25,7 +26,7 @@ le-antisym (pos a) (negsuc b) h k = absurd (h .le)
 le-antisym (negsuc a) (pos b) h k = absurd (k .le)
 le-antisym (negsuc a) (negsuc b) h k = let x = leb→le b a (h .le) in let y = leb→le a b (k .le) in ap negsuc (omega arith)
 
--- ---- modulo: a remainder below m, which differs from z by a multiple of m
+-- ---- modulo
 
 pub mod-below : (z : ℤ) (m : ℕ) → 0 < m → modOf z m < m
 mod-below (pos n) m h = mod-lt n h
@@ -39,7 +40,7 @@ mod-is (negsuc n) m h = (negsuc (n / m), go (suc (n / m) * m) (m - suc (n % m)) 
     go zero r e = absurd (omega arith)
     go (suc q) r e = sub-case (λ (z : ℤ). negsuc n ≡ z) r (suc q) (λ l. ap negsuc (omega arith)) (λ l. absurd (omega arith))
 
--- ---- the rotation: from -128 to 127, it takes the old count to the new one, and no other number does both
+-- ---- the rotation
 
 pub rotation-range : (old new : ℕ) → (negsuc 127 ≤ℤ rotationOf old new) × (rotationOf old new ≤ℤ pos 127)
 rotation-range old new = go (modOf (pos new -ℤ pos old +ℤ pos 128) 256) (mod-below (pos new -ℤ pos old +ℤ pos 128) 256 (omega arith))
@@ -66,10 +67,11 @@ rotation-only old new r h k low high e = rw (turned old new h k) (go r (low .le)
         sub-case (λ (z : ℤ). pos n ≡ z) ((new + 384 - old) % 256) 128 (λ l. absurd (omega arith)) (λ l. ap pos (omega arith))
     go (negsuc n) low high e =
         let small : n ≤ 127 = leb→le n 127 low in
-        let m : (old + 256 - suc n) % 256 ≡ new = sub-case (λ (z : ℤ). modOf z 256 ≡ new → (old + 256 - suc n) % 256 ≡ new) old (suc n) (λ l e. omega arith) (λ l e. omega arith) e in
+        let m : (old + 256 - suc n) % 256 ≡ new =
+        sub-case (λ (z : ℤ). modOf z 256 ≡ new → (old + 256 - suc n) % 256 ≡ new) old (suc n) (λ l e. omega arith) (λ l e. omega arith) e in
         sub-case (λ (z : ℤ). negsuc n ≡ z) ((new + 384 - old) % 256) 128 (λ l. ap negsuc (omega arith)) (λ l. absurd (omega arith))
 
--- ---- the clamp: within the range, and the number itself where that is within it
+-- ---- the clamp
 
 pub clamp-range : (low high z : ℤ) → low ≤ℤ high → (low ≤ℤ clampOf low high z) × (clampOf low high z ≤ℤ high)
 clamp-range low high z h = go (leZ z low) refl (leZ high z) refl
@@ -86,3 +88,14 @@ clamp-same low high z h k = go (leZ z low) refl (leZ high z) refl
     go true e b f = le-antisym low z h (leZ-yes (subst T (sym e) tt))
     go false e true f = le-antisym high z (leZ-yes (subst T (sym f) tt)) k
     go false e false f = refl
+
+pub rotation-laws : RotationLaws
+rotation-laws = record {
+  mod-below = mod-below;
+  mod-is = mod-is;
+  rotation-range = rotation-range;
+  rotation-turns = rotation-turns;
+  rotation-only = rotation-only;
+  clamp-range = clamp-range;
+  clamp-same = clamp-same;
+}

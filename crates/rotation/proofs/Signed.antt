@@ -10,7 +10,7 @@ use lib.Signed.{mag, leZ, ltZ, quotZ, remZ, mag-rem}
 use mir.Syntax.{Width, w32, w64}
 use mir.Val.{SFits, toZ, ofZ}
 use mir.ValLaws.{toZ-ofZ, toZ-pos, sfits-le}
-use Rattle.rotation.specs.Rotation.{modOf, clampOf, rotationOf}
+use Rattle.rotation.specs.Rotation.{modOf, rotationOf}
 
 pub up : {z : ℤ} → SFits w32 z → SFits w64 z
 up {z} h = record { sfits = let k = h .sfits in omega arith }
@@ -18,12 +18,19 @@ up {z} h = record { sfits = let k = h .sfits in omega arith }
 pub same32 : (z : ℤ) → SFits w32 z → toZ w32 (ofZ w32 z) ≡ z
 same32 z h = toZ-ofZ w32 z h
 
-pub same64 : (z : ℤ) → SFits w64 z → toZ w64 (ofZ w64 z) ≡ z
-same64 z h = toZ-ofZ w64 z h
+-- a number that is known by another name
+pub fits-as : {w : Width} {z v : ℤ} → z ≡ v → SFits w v → SFits w z
+fits-as {w} e h = subst (SFits w) (sym e) h
+
+pub as-bits : {w : Width} {z v : ℤ} → z ≡ v → SFits w v → toZ w (ofZ w z) ≡ v
+as-bits {w} {z} {v} e h = rw e (toZ-ofZ w v h)
 
 -- from 32 bits to 64
 pub wide : (z : ℤ) → SFits w32 z → toZ w64 (ofZ w64 (toZ w32 (ofZ w32 z))) ≡ z
-wide z h = ap (λ (k : ℤ). toZ w64 (ofZ w64 k)) (same32 z h) ∙ same64 z (up h)
+wide z h = as-bits (same32 z h) (up h)
+
+pub pair32 : {x y : ℤ} → SFits w32 x → SFits w32 y → toZ w32 (ofZ w32 x) +ℤ toZ w32 (ofZ w32 y) ≡ x +ℤ y
+pair32 {x} {y} h k = rw (same32 x h, same32 y k)
 
 -- ---- a difference and a sum are no larger than the parts allow
 
@@ -50,34 +57,9 @@ between m a (pos z) (negsuc b) h k p q = absurd (true≢false k)
 between m (pos a) (negsuc z) b h k p q = absurd (true≢false h)
 between m (negsuc a) (negsuc z) b h k p q = let l = leb-false a z h in omega arith
 
--- ---- what a callee ensures speaks of the arguments' bits
-
-pub passed : {s x : ℤ} → s ≡ toZ w32 (ofZ w32 x) → SFits w32 x → s ≡ x
-passed {s} {x} e h = e ∙ same32 x h
-
+-- what `wide_sum` ensures speaks of the arguments' bits
 pub passed-sum : {s x y : ℤ} → s ≡ toZ w32 (ofZ w32 x) +ℤ toZ w32 (ofZ w32 y) → SFits w32 x → SFits w32 y → s ≡ x +ℤ y
-passed-sum {s} {x} {y} e h k = e ∙ ap (λ (z : ℤ). z +ℤ toZ w32 (ofZ w32 y)) (same32 x h) ∙ ap (λ (z : ℤ). x +ℤ z) (same32 y k)
-
--- ---- what 64 bits hold of a sum, and of a number, of 32 bits
-
-pub sum64 : (s x y : ℤ) → s ≡ x +ℤ y → SFits w32 x → SFits w32 y → toZ w64 (ofZ w64 s) ≡ x +ℤ y
-sum64 s x y e h k = ap (λ (z : ℤ). toZ w64 (ofZ w64 z)) e ∙ same64 (x +ℤ y) (sum-fits x y h k)
-
-pub held64 : (s x : ℤ) → s ≡ x → SFits w32 x → toZ w64 (ofZ w64 s) ≡ x
-held64 s x e h = ap (λ (z : ℤ). toZ w64 (ofZ w64 z)) e ∙ same64 x (up h)
-
--- a test of two numbers that are known by other names
-pub test : {a a' b b' : ℤ} {t : Bool} → a ≡ a' → b ≡ b' → leZ a b ≡ t → leZ a' b' ≡ t
-test p q h = rw (← p, ← q) h
-
-pub clamp-low : (low high z : ℤ) → leZ z low ≡ true → clampOf low high z ≡ low
-clamp-low low high z h = rw h
-
-pub clamp-high : (low high z : ℤ) → leZ z low ≡ false → leZ high z ≡ true → clampOf low high z ≡ high
-clamp-high low high z h k = rw (h, k)
-
-pub clamp-in : (low high z : ℤ) → leZ z low ≡ false → leZ high z ≡ false → clampOf low high z ≡ z
-clamp-in low high z h k = rw (h, k)
+passed-sum {s} {x} {y} e h k = e ∙ pair32 h k
 
 -- ---- a difference of naturals, by cases
 
@@ -97,26 +79,21 @@ turned (suc o) new h k =
     (λ l. sub-case (λ (z : ℤ). modOf z 256 ≡ (new + 384 - suc o) % 256) 128 (suc (suc o - suc new)) (λ m. omega arith) (λ m. omega arith))
     (λ l. omega arith)
 
--- a number that is known by another name
-pub fits-as : {w : Width} {z v : ℤ} → z ≡ v → SFits w v → SFits w z
-fits-as {w} e h = subst (SFits w) (sym e) h
-
 -- a byte's worth and a small number, added at 32 bits
 module _ (n : ℕ) (h : n < 256) (z : ℤ) (k : T (leb (mag z) 256)) where
   as-held : toZ w32 n ≡ pos n
   as-held = toZ-pos w32 n (omega arith)
 
   pub small-sum-fits : SFits w32 (toZ w32 n +ℤ z)
-  small-sum-fits = fits-as (ap (λ (x : ℤ). x +ℤ z) as-held) (record { sfits = let l = leb→le (mag z) 256 k in let s = sum-mag 257 (pos n) z (omega arith) (omega arith) in omega arith })
+  small-sum-fits =
+      let l = leb→le (mag z) 256 k in
+      let s = sum-mag 257 (pos n) z (omega arith) (omega arith) in
+      rw as-held (record { sfits = omega arith })
 
   pub small-sum-is : toZ w32 (ofZ w32 (toZ w32 n +ℤ z)) ≡ pos n +ℤ z
-  small-sum-is = same32 (toZ w32 n +ℤ z) small-sum-fits ∙ ap (λ (x : ℤ). x +ℤ z) as-held
+  small-sum-is = same32 (toZ w32 n +ℤ z) small-sum-fits ∙ rw as-held
 
 -- ---- the heading
-
-pub mod-lt : (z : ℤ) → modOf z 360 < 360
-mod-lt (pos n) = omega arith
-mod-lt (negsuc n) = omega arith
 
 pub rem-neg : (z : ℤ) → ltZ (remZ z (pos 360)) (pos 0) ≡ true → remZ z (pos 360) +ℤ pos 360 ≡ pos (modOf z 360)
 rem-neg (pos n) h = absurd (let l = ltb-true (n % 360) 0 h in omega arith)
@@ -134,9 +111,6 @@ rem-pos (negsuc n) h = go (suc n % 360) refl h
     go zero e h = ap pos (omega arith)
     go (suc r) e h = absurd (true≢false h)
 
-pub small-fits : (z : ℤ) → SFits w32 (pos (modOf z 360))
-small-fits z = record { sfits = let l = mod-lt z in omega arith }
-
 quot-mag : (z : ℤ) → mag (quotZ z (pos 360)) ≤ mag z
 quot-mag (pos a) = omega arith
 quot-mag (negsuc a) = go (suc a / 360) refl
@@ -145,47 +119,41 @@ quot-mag (negsuc a) = go (suc a / 360) refl
     go zero e = omega arith
     go (suc r) e = omega arith
 
-pub as32 : {z v : ℤ} → z ≡ v → SFits w32 v → toZ w32 (ofZ w32 z) ≡ v
-as32 {z} {v} e h = ap (λ (k : ℤ). toZ w32 (ofZ w32 k)) e ∙ same32 v h
+-- a sum s of two numbers of 32 bits, as 64 bits hold it, and its remainder by 360
+abbrev pub held64 : ℤ → ℤ
+held64 s = toZ w64 (ofZ w64 s)
 
-pub as64 : {z v : ℤ} → z ≡ v → SFits w64 v → toZ w64 (ofZ w64 z) ≡ v
-as64 {z} {v} e h = ap (λ (k : ℤ). toZ w64 (ofZ w64 k)) e ∙ same64 v h
+abbrev pub remainder : ℤ → ℤ
+remainder s = toZ w64 (ofZ w64 (remZ (held64 s) (pos 360)))
 
--- of a sum s of two numbers of 32 bits, as 64 bits hold it
-abbrev pub held : ℤ → ℤ
-held s = toZ w64 (ofZ w64 s)
+module _ {s x y : ℤ} (e : s ≡ x +ℤ y) (h : SFits w32 x) (k : SFits w32 y) where
+  held64-is : held64 s ≡ x +ℤ y
+  held64-is = as-bits e (sum-fits x y h k)
 
-abbrev pub left : ℤ → ℤ
-left s = toZ w64 (ofZ w64 (remZ (held s) (pos 360)))
+  held64-fits : SFits w64 (held64 s)
+  held64-fits = fits-as held64-is (sum-fits x y h k)
 
-module _ (s x y : ℤ) (e : s ≡ x +ℤ y) (h : SFits w32 x) (k : SFits w32 y) where
-  held-is : (held s) ≡ x +ℤ y
-  held-is = sum64 s x y e h k
+  pub quot-fits : SFits w64 (quotZ (held64 s) (pos 360))
+  quot-fits = sfits-le (quot-mag (held64 s)) held64-fits
 
-  held-fits : SFits w64 (held s)
-  held-fits = subst (SFits w64) (sym held-is) (sum-fits x y h k)
+  remainder-is : remainder s ≡ remZ (x +ℤ y) (pos 360)
+  remainder-is = toZ-ofZ w64 (remZ (held64 s) (pos 360)) (sfits-le (mag-rem (held64 s) (pos 360)) held64-fits) ∙ rw held64-is
 
-  pub quot-fits : SFits w64 (quotZ (held s) (pos 360))
-  quot-fits = sfits-le (quot-mag (held s)) held-fits
+  pub remainder-neg : ltZ (remainder s) (pos 0) ≡ true → remainder s +ℤ pos 360 ≡ pos (modOf (x +ℤ y) 360)
+  remainder-neg t = rw remainder-is (rem-neg (x +ℤ y) (rw remainder-is at t))
 
-  left-is : left s ≡ remZ (x +ℤ y) (pos 360)
-  left-is = same64 (remZ (held s) (pos 360)) (sfits-le (mag-rem (held s) (pos 360)) held-fits) ∙ ap (λ (z : ℤ). remZ z (pos 360)) held-is
-
-  pub left-neg : ltZ (left s) (pos 0) ≡ true → left s +ℤ pos 360 ≡ pos (modOf (x +ℤ y) 360)
-  left-neg t = ap (λ (z : ℤ). z +ℤ pos 360) left-is ∙ rem-neg (x +ℤ y) (rw left-is at t)
-
-  pub left-pos : ltZ (left s) (pos 0) ≡ false → left s ≡ pos (modOf (x +ℤ y) 360)
-  left-pos t = left-is ∙ rem-pos (x +ℤ y) (rw left-is at t)
+  pub remainder-pos : ltZ (remainder s) (pos 0) ≡ false → remainder s ≡ pos (modOf (x +ℤ y) 360)
+  remainder-pos t = remainder-is ∙ rem-pos (x +ℤ y) (rw remainder-is at t)
 
 -- ---- for callers
 
-pub pair32 : {x y : ℤ} → SFits w32 x → SFits w32 y → toZ w32 (ofZ w32 x) +ℤ toZ w32 (ofZ w32 y) ≡ x +ℤ y
-pair32 {x} {y} h k = passed-sum refl h k
+pub as32 : {z v : ℤ} → z ≡ v → SFits w32 v → toZ w32 (ofZ w32 z) ≡ v
+as32 e h = as-bits e h
 
 -- a rotation is from -128 to 127, and a hundred of it fits 32 bits
 pub rotation-mag : (old new : ℕ) → old < 256 → new < 256 → mag (rotationOf old new) < 128
 rotation-mag old new h k =
-    subst (λ (n : ℕ). mag (pos n -ℤ pos 128) < 128) (sym (turned old new h k)) (sub-case (λ (z : ℤ). mag z < 128) ((new + 384 - old) % 256) 128 (λ l. omega arith) (λ l. omega arith))
+    rw (turned old new h k) (sub-case (λ (z : ℤ). mag z < 128) ((new + 384 - old) % 256) 128 (λ l. omega arith) (λ l. omega arith))
 
 pub hundred-fits : (z : ℤ) → mag z < 128 → SFits w32 (z *ℤ pos 100)
 hundred-fits (pos a) h = record { sfits = omega arith }

@@ -1,2 +1,3 @@
 pub mod Rotation
+pub mod Laws
 pub mod Sheet

@@ -1,5 +1,5 @@
 -- The bench sheet's arithmetic of knobs, case 4 and the sums of case 5, as one claim. Document 01, 'Bench sheet'.
-use mathlib.Core.Path.{_≡_, refl}
+use mathlib.Core.Path.{_≡_}
 use lib.IntN.{pos, negsuc, _+ℤ_}
 use Rattle.rotation.specs.Rotation.{rotationOf, clampOf, modOf}
 
@@ -12,6 +12,3 @@ pub record SheetKnobs : Type 0 where
   pub heading : modOf (pos 355 +ℤ rotationOf 250 3) 360 ≡ 4
   -- vertical speed 48, of the range -50 to 50, and a rotation of 9
   pub vertical-speed : clampOf (negsuc 49) (pos 50) (pos 48 +ℤ rotationOf 250 3) ≡ pos 50
-
-pub sheet-knobs : SheetKnobs
-sheet-knobs = record { up = refl; down = refl; half = refl; half-back = refl; heading = refl; vertical-speed = refl }

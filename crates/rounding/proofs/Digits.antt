@@ -1,17 +1,16 @@
 -- What is left of a number when binary digits are dropped one at a time, and how it rounds. Assumes nothing.
-use mathlib.Core.Path.{_≡_, refl, sym, ap, _∙_, subst}
-use mathlib.Core.Bool.{Bool, true, false, not, _||_, true≢false, false≢true}
+use mathlib.Core.Path.{_≡_, refl, sym, ap}
+use mathlib.Core.Bool.{Bool, true, false, _||_}
 use Prim.Native.Nat.{ℕ, zero, suc, _+_, _-_, _*_, _/_, _%_, _^_, _≤_, _<_, compare}
 use native.Mathlib.Nat.{pow-succ', mod-lt, div-one, mod-one, mul-comm, div-div-eq-div-mul, div-eq-of-lt, mod-eq-of-lt, div-le-self}
 use native.Mathlib.Omega.{arith}
-use lib.Dec.{T, eqb, eqb→eq, T-not}
+use lib.Dec.{eqb}
 use lib.Arith.{mod-mul}
-use lib.Pow.{pow-pos}
 use lib.Ieee.Nearest.{closest}
 use lib.Ieee.Fits.{nearest-le}
 use Rattle.rounding.specs.declared.Cut.{Cut}
 use Rattle.rounding.specs.Cut.{dropOne, cutOf}
-use Rattle.rounding.specs.Fraction.{by-compare}
+use Rattle.rounding.proofs.Fraction.{by-compare}
 
 pub cut-none : (m n : ℕ) → n ≡ 0 → record { kept = m; half = false; rest = false } ≡ cutOf m n
 unfolding cutOf
@@ -32,46 +31,38 @@ Lies false true r p = (0 < r) × (r * 2 < p)
 Lies true false r p = (0 < r) × (r * 2 ≡ p)
 Lies true true r p = p < r * 2
 
-some : (h s : Bool) (r p : ℕ) → 0 < p → Lies h s r p → T (h || s) → 0 < r
-some false false r p q l t = absurd t
-some false true r p q l t = l .0
-some true false r p q l t = l .0
-some true true r p q l t = omega arith
-
-none : (h s : Bool) (r p : ℕ) → Lies h s r p → T (not (h || s)) → r ≡ 0
-none false false r p l t = l
-none false true r p l t = absurd t
-none true false r p l t = absurd t
-none true true r p l t = absurd t
-
 -- one digit d more, above the remainder r
-lies-up : (d r p : ℕ) (a b : Bool) → d < 2 → r < p → (T a → d ≡ 1) → (T (not a) → d ≡ 0) → (T b → 0 < r) → (T (not b) → r ≡ 0) → Lies a b (d * p + r) (2 * p)
-lies-up d r p false false l k a a' b b' = simp (a' tt, b' tt) (omega arith)
-lies-up d r p false true l k a a' b b' = let z = b tt in simp (a' tt) (omega arith, omega arith)
-lies-up d r p true false l k a a' b b' = simp (a tt, b' tt) (omega arith, omega arith)
-lies-up d r p true true l k a a' b b' = let z = b tt in simp (a tt) (omega arith)
+lies-up : (d r p : ℕ) (h s : Bool) → d < 2 → r < p → Lies h s r p → Lies (eqb d 1) (h || s) (d * p + r) (2 * p)
+lies-up zero r p false false b k l = omega arith
+lies-up zero r p false true b k l = (omega arith, omega arith)
+lies-up zero r p true false b k l = (omega arith, omega arith)
+lies-up zero r p true true b k l = (omega arith, omega arith)
+lies-up (suc zero) r p false false b k l = (omega arith, omega arith)
+lies-up (suc zero) r p false true b k l = omega arith
+lies-up (suc zero) r p true false b k l = omega arith
+lies-up (suc zero) r p true true b k l = omega arith
+lies-up (suc (suc d)) r p h s b k l = absurd (omega arith)
 
-bit : (k : ℕ) → T (not (eqb (k % 2) 1)) → k % 2 ≡ 0
-bit k t = go (λ e. T-not (eqb (k % 2) 1) t (subst (λ (x : ℕ). T (eqb x 1)) (sym e) tt))
-  where
-    go : (k % 2 ≡ 1 → ⊥) → k % 2 ≡ 0
-    go n = omega arith
+-- c is what is left of m when the digits below p are dropped
+pub record Says (c : Cut) (m p : ℕ) : Type 0 where
+  pub above : 0 < p
+  pub whole : c .kept ≡ m / p
+  pub remainder : Lies (c .half) (c .rest) (m % p) p
 
-abbrev pub Says : Cut → ℕ → ℕ → Type 0
-Says c m p = (c .kept ≡ m / p) × Lies (c .half) (c .rest) (m % p) p
-
-says-more : (c : Cut) (m p : ℕ) → 0 < p → Says c m p → Says (dropOne c) m (2 * p)
-says-more c m p h s = (
-  ap (λ (k : ℕ). k / 2) (s .0) ∙ div-div-eq-div-mul m p 2 ∙ ap (λ (k : ℕ). m / k) (mul-comm p 2),
-  subst (λ (k : ℕ). Lies (eqb (c .kept % 2) 1) (c .half || c .rest) k (2 * p)) (ap (λ (k : ℕ). k % 2 * p + m % p) (s .0) ∙ sym (mod-mul m {m = 2} {c = p} (omega arith) h))
-      (lies-up (c .kept % 2) (m % p) p (eqb (c .kept % 2) 1) (c .half || c .rest) (omega arith) (mod-lt m h)
-      (eqb→eq (c .kept % 2) 1) (bit (c .kept)) (some (c .half) (c .rest) (m % p) p h (s .1)) (none (c .half) (c .rest) (m % p) p (s .1))),
-)
+says-more : (c : Cut) (m p : ℕ) → Says c m p → Says (dropOne c) m (2 * p)
+says-more c m p s =
+    let P = s .above in
+    let d : c .kept % 2 * p + m % p ≡ m % (2 * p) = rw (s .whole) (sym (mod-mul m {m = 2} {c = p} (omega arith) P)) in
+    record {
+      above = omega arith;
+      whole = rw (s .whole, div-div-eq-div-mul m p 2, mul-comm p 2);
+      remainder = rw (← d) (lies-up (c .kept % 2) (m % p) p (c .half) (c .rest) (omega arith) (mod-lt m P) (s .remainder));
+    }
 
 pub cut-says : (m n : ℕ) → Says (cutOf m n) m (2 ^ n)
 unfolding cutOf
-cut-says m zero = (sym (div-one m), mod-one m)
-cut-says m (suc n) = subst (λ (p : ℕ). Says (dropOne (cutOf m n)) m p) (sym (pow-succ' 2 n)) (says-more (cutOf m n) m (2 ^ n) (pow-pos n) (cut-says m n))
+cut-says m zero = record { above = omega arith; whole = sym (div-one m); remainder = mod-one m }
+cut-says m (suc n) = rw (pow-succ' 2 n) (says-more (cutOf m n) m (2 ^ n) (cut-says m n))
 
 -- ---- rounding
 
@@ -86,36 +77,30 @@ closest-zero a b h =
     let r = mod-eq-of-lt l in
     by-compare (λ (q : ℕ). q ≡ 0) (a / b) (a % b * 2) b (λ k. div-eq-of-lt l) (λ k. absurd (omega arith)) (λ k. absurd (omega arith))
 
-module _ (c : Cut) (m p : ℕ) (h : 0 < p) (s : Says c m p) where
+less : (s : Bool) (r p : ℕ) → 0 < p → Lies false s r p → r * 2 < p
+less false r p P l = omega arith
+less true r p P l = l .1
+
+module _ {c : Cut} {m p : ℕ} (s : Says c m p) where
+  -- the last digit dropped was 0: less than a half
   pub round-down : c .half ≡ false → c .kept ≡ closest m p
   round-down e =
-      let l = go (c .half) (c .rest) (s .1) e in
-      by-compare (λ (q : ℕ). c .kept ≡ q) (m / p) (m % p * 2) p (λ k. s .0) (λ k. absurd (omega arith)) (λ k. absurd (omega arith))
-    where
-      go : (a b : Bool) → Lies a b (m % p) p → a ≡ false → m % p * 2 < p
-      go false false l e = omega arith
-      go false true l e = l .1
-      go true b l e = absurd (true≢false e)
+      let l = less (c .rest) (m % p) p (s .above) (rw e at (s .remainder)) in
+      by-compare (λ (q : ℕ). c .kept ≡ q) (m / p) (m % p * 2) p (λ k. s .whole) (λ k. absurd (omega arith)) (λ k. absurd (omega arith))
 
+  -- it was 1, and no other: a tie
   pub round-tie : c .half ≡ true → c .rest ≡ false → c .kept + c .kept % 2 ≡ closest m p
   round-tie e f =
-      let l = go (c .half) (c .rest) (s .1) e f in
-      by-compare (λ (q : ℕ). c .kept + c .kept % 2 ≡ q) (m / p) (m % p * 2) p (λ k. absurd (omega arith)) (λ k. ap (λ (x : ℕ). x + x % 2) (s .0)) (λ k. absurd (omega arith))
-    where
-      go : (a b : Bool) → Lies a b (m % p) p → a ≡ true → b ≡ false → m % p * 2 ≡ p
-      go true false l e f = l .1
-      go false b l e f = absurd (false≢true e)
-      go true true l e f = absurd (true≢false f)
+      let l = rw (e, f) at (s .remainder) in
+      by-compare (λ (q : ℕ). c .kept + c .kept % 2 ≡ q) (m / p) (m % p * 2) p
+      (λ k. absurd (omega arith)) (λ k. ap (λ (x : ℕ). x + x % 2) (s .whole)) (λ k. absurd (omega arith))
 
+  -- it was 1, and so was one before it: more than a half
   pub round-up : c .half ≡ true → c .rest ≡ true → c .kept + 1 ≡ closest m p
   round-up e f =
-      let l = go (c .half) (c .rest) (s .1) e f in
-      by-compare (λ (q : ℕ). c .kept + 1 ≡ q) (m / p) (m % p * 2) p (λ k. absurd (omega arith)) (λ k. absurd (omega arith)) (λ k. let d = s .0 in omega arith)
-    where
-      go : (a b : Bool) → Lies a b (m % p) p → a ≡ true → b ≡ true → p < m % p * 2
-      go true true l e f = l
-      go false b l e f = absurd (false≢true e)
-      go true false l e f = absurd (false≢true f)
+      let l = rw (e, f) at (s .remainder) in
+      by-compare (λ (q : ℕ). c .kept + 1 ≡ q) (m / p) (m % p * 2) p
+      (λ k. absurd (omega arith)) (λ k. absurd (omega arith)) (λ k. let d = s .whole in omega arith)
 
   pub kept-le : c .kept ≤ m
-  kept-le = subst (λ (k : ℕ). k ≤ m) (sym (s .0)) (div-le-self m p)
+  kept-le = rw (s .whole) (div-le-self m p)

@@ -47,10 +47,8 @@ fields-value : (s : Bool) (x t : ℕ) → (x ≡ 2047 → ⊥) → HasValue (ofF
 unfolding ofFields
 fields-value s zero t h = odd-sign 53 s t 0 1074
 fields-value s (suc x) t h =
-    rw (ne-eqb (suc x) 2047 h) (subst (λ (k : ℕ). HasValue (odd 53 s (4503599627370496 + t) x 1074) s ((4503599627370496 + t) * 2 ^ k) (2 ^ 1074)) (less x) (odd-sign 53 s (4503599627370496 + t) x 1074))
-  where
-    less : (x : ℕ) → x ≡ suc x - 1
-    less x = omega arith
+    let e : suc x - 1 ≡ x = omega arith in
+    rw (ne-eqb (suc x) 2047 h, e) (odd-sign 53 s (4503599627370496 + t) x 1074)
 
 lead-lt : (x t : ℕ) → t < 4503599627370496 → lead x t < 2 ^ 53
 lead-lt zero t h = omega arith
@@ -71,7 +69,8 @@ large zero t k = absurd (let z : 1075 ≤ 0 = k in omega arith)
 large (suc x) t k =
     let a = (4503599627370496 + t) * 2 ^ (suc x - 1) in
     let e : 1074 ≤ suc x - 1 = omega arith in
-    le-trans (le-div-iff-mul-le (pow-pos 1074) .1 (mul-le-mul (le-add-right 4503599627370496 t) (pow-mono e))) (nearest-ge (a / 2 ^ 1074) (compare (a % 2 ^ 1074 * 2) (2 ^ 1074)))
+    le-trans (le-div-iff-mul-le (pow-pos 1074) .1 (mul-le-mul (le-add-right 4503599627370496 t) (pow-mono e)))
+    (nearest-ge (a / 2 ^ 1074) (compare (a % 2 ^ 1074 * 2) (2 ^ 1074)))
 
 middle : (x t : ℕ) → 1022 ≤ x → x < 1075 → closest (lead x t * 2 ^ (x - 1)) (2 ^ 1074) ≡ closest (4503599627370496 + t) (2 ^ (1075 - x))
 middle zero t h k = absurd (let z : 1022 ≤ 0 = h in omega arith)
@@ -84,6 +83,9 @@ middle (suc x) t h k =
 zero-signed : (s : Bool) → inAnswer (signedOf s 0) ≡ Value (signedOf false 0)
 zero-signed true = refl
 zero-signed false = refl
+
+other : (x k : ℕ) → x < k → k ≤ 2047 → x ≡ 2047 → ⊥
+other x k l h e = omega arith
 
 -- ---- of a pattern b
 
@@ -102,7 +104,7 @@ module _ (b : ℕ) where
   read = refl
 
   value : (field ≡ 2047 → ⊥) → wholeOf (ofBits binary64 b) ≡ inAnswer (signedOf sign (closest (lead field digits * 2 ^ (field - 1)) (2 ^ 1074)))
-  value h = ap wholeOf read ∙ of-value (ofFields binary64 sign field digits) sign (lead field digits * 2 ^ (field - 1)) (2 ^ 1074) (pow-pos 1074) (fields-value sign field digits h)
+  value h = ap wholeOf read ∙ of-value _ sign (lead field digits * 2 ^ (field - 1)) (2 ^ 1074) (pow-pos 1074) (fields-value sign field digits h)
 
   pub bits-ones : field ≡ 2047 → NotFinite ≡ wholeOf (ofBits binary64 b)
   bits-ones h = sym (ap wholeOf read ∙ ones-fields sign field digits h)
@@ -116,16 +118,10 @@ module _ (b : ℕ) where
       beyond true (suc q) h = rw (lt-leb q 2147483647 (omega arith))
 
   pub bits-small : field < 1022 → Value (signedOf false 0) ≡ wholeOf (ofBits binary64 b)
-  bits-small h = sym (value (λ e. other field h e) ∙ ap (λ (q : ℕ). inAnswer (signedOf sign q)) (small field digits (mod-lt b (pow-pos 52)) h) ∙ zero-signed sign)
-    where
-      other : (x : ℕ) → x < 1022 → x ≡ 2047 → ⊥
-      other x h e = omega arith
+  bits-small h = sym (value (other field 1022 h (omega arith)) ∙ ap (λ (q : ℕ). inAnswer (signedOf sign q)) (small field digits (mod-lt b (pow-pos 52)) h) ∙ zero-signed sign)
 
   pub bits-middle : 1022 ≤ field → field < 1075 → inAnswer (signedOf sign (closest (4503599627370496 + digits) (2 ^ (1075 - field)))) ≡ wholeOf (ofBits binary64 b)
-  bits-middle h k = sym (value (λ e. other field k e) ∙ ap (λ (q : ℕ). inAnswer (signedOf sign q)) (middle field digits h k))
-    where
-      other : (x : ℕ) → x < 1075 → x ≡ 2047 → ⊥
-      other x h e = omega arith
+  bits-middle h k = sym (value (other field 1075 k (omega arith)) ∙ ap (λ (q : ℕ). inAnswer (signedOf sign q)) (middle field digits h k))
 
   pub bits-le : closest (4503599627370496 + digits) (2 ^ (1075 - field)) ≤ 9007199254740992
   bits-le = closest-le (4503599627370496 + digits) (2 ^ (1075 - field)) 9007199254740992 (omega arith)

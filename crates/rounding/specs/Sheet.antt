@@ -1,6 +1,6 @@
 -- The whole values of the bench sheet (document 01, 'Bench sheet', cases 1 to 3) as one claim, and those at the edges as another.
 -- Each float is read from its 64 bits; the comment gives it in decimal.
-use mathlib.Core.Path.{_≡_, refl}
+use mathlib.Core.Path.{_≡_}
 use lib.IntN.{pos, negsuc}
 use lib.Ieee.{binary64, ofBits}
 use Rattle.rounding.specs.declared.Whole.the-variants.{NotFinite, Beyond, Value}
@@ -17,18 +17,6 @@ pub record SheetWhole : Type 0 where
   -- case 3: 56000.5, 56001
   pub altitude-in : wholeOf (ofBits binary64 0x40eb_5810_0000_0000) ≡ Value (pos 56000)
   pub altitude-out : wholeOf (ofBits binary64 0x40eb_5820_0000_0000) ≡ Value (pos 56001)
-
-pub sheet-whole : SheetWhole
-unfolding wholeOf ofBits
-sheet-whole = record {
-  tie-12 = refl;
-  tie-13 = refl;
-  minus-half = refl;
-  heading-in = refl;
-  heading-out = refl;
-  altitude-in = refl;
-  altitude-out = refl;
-}
 
 pub record Edges : Type 0 where
   -- 5e-324, the smallest positive double, and -0.0
@@ -47,19 +35,3 @@ pub record Edges : Type 0 where
   pub infinite : wholeOf (ofBits binary64 0x7ff0_0000_0000_0000) ≡ NotFinite
   pub minus-infinite : wholeOf (ofBits binary64 0xfff0_0000_0000_0000) ≡ NotFinite
   pub not-a-number : wholeOf (ofBits binary64 0x7ff8_0000_0000_0000) ≡ NotFinite
-
-pub edges : Edges
-unfolding wholeOf ofBits
-edges = record {
-  smallest = refl;
-  minus-zero = refl;
-  top = refl;
-  above-top = refl;
-  bottom = refl;
-  bottom-tie = refl;
-  below-bottom = refl;
-  largest = refl;
-  infinite = refl;
-  minus-infinite = refl;
-  not-a-number = refl;
-}

@@ -1,5 +1,5 @@
 -- The whole value of a float. Document 01, 'Readings': the nearest integer, a tie to the even one, of the exact binary value.
--- `specs/Laws.antt` proves that these definitions say so.
+-- `specs/Laws.antt` states that these definitions say so.
 use Prim.Native.Nat.{ℕ, _*_}
 use mathlib.Core.Bool.{Bool, true, false, _&&_, cond}
 use lib.IntN.{ℤ, pos, negsuc, negℤ}
@@ -13,7 +13,7 @@ use Rattle.rounding.specs.declared.Whole.the-variants.{NotFinite, Beyond
 abbrev pub magnitudeOf : ℕ → ℤ → ℕ
 magnitudeOf m e = closest (m * up e) (down e)
 
--- The integer of magnitude q, negative where the flag is true. Nearest and even mean the same on both sides of zero, so 'Readings' is met by rounding the magnitude.
+-- The integer of magnitude q, negative where the flag is true. Nearest and even mean the same on both sides of 0, so 'Readings' is met by rounding the magnitude.
 abbrev pub signedOf : Bool → ℕ → ℤ
 signedOf true q = negℤ (pos q)
 signedOf false q = pos q

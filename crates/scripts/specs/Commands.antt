@@ -19,8 +19,8 @@ use Rattle.numerals.specs.declared.answers.Number.{Number}
 use Rattle.numerals.specs.declared.answers.Signed.{Signed}
 use Rattle.numerals.specs.declared.answers.Value.{Value}
 use Rattle.numerals.specs.Numbers.{numberIn}
-use Rattle.numerals.specs.Integers.{signedOf}
-use Rattle.numerals.specs.Values.{valueOf}
+use Rattle.numerals.specs.Integers.{signedIn}
+use Rattle.numerals.specs.Values.{valueIn}
 use Rattle.scripts.specs.declared.Command.{Command}
 use Rattle.scripts.specs.declared.Named.{Named}
 use Rattle.scripts.specs.declared.Given.{Given}
@@ -88,12 +88,16 @@ abbrev pub absent : List ℕ → ℕ → Bool
 absent text n = eqb (length (wordOf text n)) 0
 
 -- what is asked, of a text that has so many words, no fewer and no more
-unfoldable pub counted : List ℕ → ℕ → Command → Command
-counted text wanted asked =
+unfoldable pub withWords : List ℕ → ℕ → Command → Command
+withWords text wanted asked =
     cond (absent text (wanted - 1)) (Command.Wrong tooFew)
     (cond (absent text wanted) asked (Command.Wrong tooMany))
 
 -- ---- numbers: event words, knobs and sides have 32 bits, a count has 8
+
+-- word n as a number of at most `most`
+abbrev pub numberAt : List ℕ → ℕ → ℕ → Number
+numberAt text n most = numberIn most (wordOf text n)
 
 abbrev pub ifNumber : Number → (ℕ → Command) → Command → Command
 ifNumber (Number.Is n) ask other = ask n
@@ -101,11 +105,11 @@ ifNumber Number.Wrong ask other = other
 
 -- a command with one number
 unfoldable pub withNumber : (ℕ → Command) → List ℕ → Command
-withNumber ask text = ifNumber (numberIn 4294967295 (wordOf text 1)) ask (Command.Wrong noNumber)
+withNumber ask text = ifNumber (numberAt text 1 4294967295) ask (Command.Wrong noNumber)
 
--- event WORD, send SIDE, refresh SIDE, display SIDE, pick SIDE
-abbrev pub numbered : ℕ → ℕ → Command
-numbered command n =
+-- event WORD, send SIDE, refresh SIDE, display SIDE, pick SIDE, by the number of a name of commandNames
+abbrev pub oneNumberBy : ℕ → ℕ → Command
+oneNumberBy command n =
     cond (eqb command 0) (Command.Event n)
     (cond (eqb command 1) (Command.Send n)
     (cond (eqb command 2) (Command.Refresh n)
@@ -114,15 +118,15 @@ numbered command n =
 
 -- turn KNOB COUNT
 unfoldable pub turnBy : ℕ → List ℕ → Command
-turnBy knob text = ifNumber (numberIn 255 (wordOf text 2)) (Command.Turn knob) (Command.Wrong noByte)
+turnBy knob text = ifNumber (numberAt text 2 255) (Command.Turn knob) (Command.Wrong noByte)
 
 unfoldable pub turnOf : List ℕ → Command
 turnOf text = withNumber (λ knob. turnBy knob text) text
 
 -- ---- readings: reading KIND VALUE, and damage reading KIND VALUE
 
-abbrev pub kindOf : ℕ → Float → Reading
-kindOf kind x =
+abbrev pub kindBy : ℕ → Float → Reading
+kindBy kind x =
     cond (eqb kind 0) (Reading.Altitude x)
     (cond (eqb kind 1) (Reading.Airspeed x)
     (cond (eqb kind 2) (Reading.VerticalSpeed x)
@@ -131,14 +135,14 @@ kindOf kind x =
     (Reading.Heading x)))))
 
 abbrev pub readingBy : ℕ → Value → Named
-readingBy kind (Value.Is x) = Named.Is (kindOf kind x)
+readingBy kind (Value.Is x) = Named.Is (kindBy kind x)
 readingBy kind Value.Wrong = Named.Wrong noValue
 
 -- the words n and n + 1 as a kind and its value, or what is wrong with them
 unfoldable pub readingAt : List ℕ → ℕ → Named
 readingAt text n =
     cond (ltb (lookupOf (wordOf text n) kindNames 6) 6)
-    (readingBy (lookupOf (wordOf text n) kindNames 6) (valueOf (wordOf text (n + 1))))
+    (readingBy (lookupOf (wordOf text n) kindNames 6) (valueIn (wordOf text (n + 1))))
     (Named.Wrong noKind)
 
 abbrev pub ifReading : Named → (Reading → Command) → Command
@@ -147,16 +151,16 @@ ifReading (Named.Wrong why) ask = Command.Wrong why
 
 -- ---- sets, by four numbers: lateral law, armed lateral mode, vertical law, VAPPR armed
 
-abbrev pub lateralOf : ℕ → Lateral
-lateralOf n =
+abbrev pub lateralBy : ℕ → Lateral
+lateralBy n =
     cond (eqb n 1) Lateral.Roll (cond (eqb n 2) Lateral.Hdg (cond (eqb n 3) Lateral.Nav (cond (eqb n 4) Lateral.Lappr Lateral.Lga)))
 
 -- 0 none, 1 NAV, 2 LAPPR
-abbrev pub armedOf : ℕ → ArmedLateral
-armedOf n = cond (eqb n 0) ArmedLateral.Neither (cond (eqb n 1) ArmedLateral.Nav ArmedLateral.Lappr)
+abbrev pub armedBy : ℕ → ArmedLateral
+armedBy n = cond (eqb n 0) ArmedLateral.Neither (cond (eqb n 1) ArmedLateral.Nav ArmedLateral.Lappr)
 
-abbrev pub verticalOf : ℕ → Vertical
-verticalOf n =
+abbrev pub verticalBy : ℕ → Vertical
+verticalBy n =
     cond (eqb n 1) Vertical.Pitch
     (cond (eqb n 2) Vertical.Vs
     (cond (eqb n 3) Vertical.Flc
@@ -172,28 +176,28 @@ figureOf (Number.Is n) = n
 figureOf Number.Wrong = 4294967296
 
 unfoldable pub figureAt : List ℕ → ℕ → ℕ
-figureAt text n = figureOf (numberIn 4294967295 (wordOf text n))
+figureAt text n = figureOf (numberAt text n 4294967295)
 
 -- lateral 0, and three other numbers
-unfoldable pub isOff : ℕ → ℕ → ℕ → ℕ → Bool
-isOff lateral armed vertical vappr = eqb lateral 0 && (leb armed 4294967295 && (leb vertical 4294967295 && leb vappr 4294967295))
+abbrev pub givesOff : ℕ → ℕ → ℕ → ℕ → Bool
+givesOff lateral armed vertical vappr = eqb lateral 0 && (leb armed 4294967295 && (leb vertical 4294967295 && leb vappr 4294967295))
 
-unfoldable pub isOn : ℕ → ℕ → ℕ → ℕ → Bool
-isOn lateral armed vertical vappr =
+abbrev pub givesOn : ℕ → ℕ → ℕ → ℕ → Bool
+givesOn lateral armed vertical vappr =
     leb 1 lateral && (leb lateral 5 && (leb armed 2 && (leb 1 vertical && (leb vertical 8 && leb vappr 1))))
 
-abbrev pub modesOf : ℕ → ℕ → ℕ → ℕ → Modes
-modesOf lateral armed vertical vappr = record {
-  lateral = lateralOf lateral;
-  armed = armedOf armed;
-  vertical = verticalOf vertical;
+abbrev pub modesBy : ℕ → ℕ → ℕ → ℕ → Modes
+modesBy lateral armed vertical vappr = record {
+  lateral = lateralBy lateral;
+  armed = armedBy armed;
+  vertical = verticalBy vertical;
   «vappr_armed» = eqb vappr 1;
 }
 
-unfoldable pub setOf : ℕ → ℕ → ℕ → ℕ → Given
-setOf lateral armed vertical vappr =
-    cond (isOff lateral armed vertical vappr) (Given.Is ModeSet.Off)
-    (cond (isOn lateral armed vertical vappr) (Given.Is (ModeSet.On (modesOf lateral armed vertical vappr)))
+unfoldable pub setBy : ℕ → ℕ → ℕ → ℕ → Given
+setBy lateral armed vertical vappr =
+    cond (givesOff lateral armed vertical vappr) (Given.Is ModeSet.Off)
+    (cond (givesOn lateral armed vertical vappr) (Given.Is (ModeSet.On (modesBy lateral armed vertical vappr)))
     Given.Wrong)
 
 abbrev pub ifSet : Given → (ModeSet → Command) → Command
@@ -203,34 +207,34 @@ ifSet Given.Wrong ask = Command.Wrong noSet
 -- ---- damage
 
 -- damage pf N
-unfoldable pub pfOf : List ℕ → Command
-pfOf text = ifNumber (numberIn 255 (wordOf text 2)) Command.DamagePf (Command.Wrong noByte)
+unfoldable pub damagePf : List ℕ → Command
+damagePf text = ifNumber (numberAt text 2 255) Command.DamagePf (Command.Wrong noByte)
 
 -- damage BOX set LATERAL ARMED VERTICAL VAPPR-ARMED
-unfoldable pub boxSet : ℕ → List ℕ → Command
-boxSet box text = ifSet (setOf (figureAt text 3) (figureAt text 4) (figureAt text 5) (figureAt text 6)) (Command.DamageSet box)
+unfoldable pub damageSet : ℕ → List ℕ → Command
+damageSet box text = ifSet (setBy (figureAt text 3) (figureAt text 4) (figureAt text 5) (figureAt text 6)) (Command.DamageSet box)
 
 abbrev pub ifSigned : Signed → (ℤ → Command) → Command
 ifSigned (Signed.Is x) ask = ask x
 ifSigned Signed.Wrong ask = Command.Wrong noSigned
 
 -- damage BOX REFERENCE N, a signed number of 32 bits
-unfoldable pub boxReference : ℕ → ℕ → List ℕ → Command
-boxReference box reference text = ifSigned (signedOf (wordOf text 3)) (Command.DamageReference box reference)
+unfoldable pub damageReference : ℕ → ℕ → List ℕ → Command
+damageReference box reference text = ifSigned (signedIn (wordOf text 3)) (Command.DamageReference box reference)
 
 -- by the number of a name of partNames
-unfoldable pub boxBy : ℕ → ℕ → List ℕ → Command
-boxBy what box text =
-    cond (ltb what 7) (counted text 4 (boxReference box what text))
-    (cond (eqb what 7) (counted text 7 (boxSet box text))
+unfoldable pub damagePart : ℕ → ℕ → List ℕ → Command
+damagePart what box text =
+    cond (ltb what 7) (withWords text 4 (damageReference box what text))
+    (cond (eqb what 7) (withWords text 7 (damageSet box text))
     (Command.Wrong noReference))
 
 -- by the number of a name of damageNames
 unfoldable pub damageBy : ℕ → List ℕ → Command
 damageBy what text =
-    cond (ltb what 4) (boxBy (lookupOf (wordOf text 2) partNames 8) what text)
-    (cond (eqb what 4) (counted text 4 (ifReading (readingAt text 2) Command.DamageReading))
-    (cond (eqb what 5) (counted text 3 (pfOf text))
+    cond (ltb what 4) (damagePart (lookupOf (wordOf text 2) partNames 8) what text)
+    (cond (eqb what 4) (withWords text 4 (ifReading (readingAt text 2) Command.DamageReading))
+    (cond (eqb what 5) (withWords text 3 (damagePf text))
     (Command.Wrong noBox)))
 
 -- ---- commands
@@ -238,12 +242,12 @@ damageBy what text =
 -- by the number of a name of commandNames: the table of commands, with the number of words of each
 unfoldable pub commandBy : ℕ → List ℕ → Command
 commandBy command text =
-    cond (ltb command 5) (counted text 2 (withNumber (numbered command) text))
-    (cond (eqb command 5) (counted text 3 (turnOf text))
-    (cond (eqb command 6) (counted text 3 (ifReading (readingAt text 1) Command.Reading))
-    (cond (eqb command 7) (counted text 1 Command.PowerOn)
-    (cond (eqb command 8) (counted text 1 Command.Bench)
-    (cond (eqb command 9) (counted text 1 Command.Panel)
+    cond (ltb command 5) (withWords text 2 (withNumber (oneNumberBy command) text))
+    (cond (eqb command 5) (withWords text 3 (turnOf text))
+    (cond (eqb command 6) (withWords text 3 (ifReading (readingAt text 1) Command.Reading))
+    (cond (eqb command 7) (withWords text 1 Command.PowerOn)
+    (cond (eqb command 8) (withWords text 1 Command.Bench)
+    (cond (eqb command 9) (withWords text 1 Command.Panel)
     (cond (eqb command 10) (damageBy (lookupOf (wordOf text 1) damageNames 6) text)
     (Command.Wrong noCommand)))))))
 

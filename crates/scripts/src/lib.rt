@@ -2,9 +2,9 @@
 ghost use mathlib.Core.Path.{_≡_};
 ghost use Prim.Native.Nat.{_<_};
 ghost use Rattle.words.specs.Words.{wordOf, lookupOf};
-ghost use Rattle.scripts.specs.Commands.{counted, withNumber, numbered, turnBy, turnOf, kindOf, readingBy, readingAt, ifReading};
-ghost use Rattle.scripts.specs.Commands.{lateralOf, armedOf, verticalOf, figureAt, isOff, isOn, modesOf, setOf};
-ghost use Rattle.scripts.specs.Commands.{damageNames, partNames, pfOf, boxSet, boxReference, boxBy, damageBy, commandBy, commandIn, commandOf};
+ghost use Rattle.scripts.specs.Commands.{numberAt, withWords, withNumber, oneNumberBy, turnBy, turnOf, kindBy, readingBy, readingAt, ifReading};
+ghost use Rattle.scripts.specs.Commands.{lateralBy, armedBy, verticalBy, figureAt, givesOff, givesOn, modesBy, setBy};
+ghost use Rattle.scripts.specs.Commands.{damageNames, partNames, damagePf, damageSet, damageReference, damagePart, damageBy, commandBy, commandIn, commandOf};
 use bench::Reading;
 use modes::ArmedLateral;
 use modes::Lateral;
@@ -74,9 +74,9 @@ enum Given {
 }
 
 // What is asked, if a text has so many words; else what is wrong with their number.
-fn counted(text: &[u8], wanted: usize, asked: Command) -> Command
+fn with_words(text: &[u8], wanted: usize, asked: Command) -> Command
     requires { ⌜ 0 < wanted ⌝ }
-    ensures { λ res. ⌜ res ≡ counted (now (text .entry)) wanted asked ⌝ }
+    ensures { λ res. ⌜ res ≡ withWords (now (text .entry)) wanted asked ⌝ }
 {
     let last = words::word(text, wanted - 1);
     if last.len() == 0 {
@@ -90,8 +90,8 @@ fn counted(text: &[u8], wanted: usize, asked: Command) -> Command
     }
 }
 
-fn numbered(command: usize, n: u32) -> Command
-    ensures { λ res. ⌜ res ≡ numbered command n ⌝ }
+fn one_number_by(command: usize, n: u32) -> Command
+    ensures { λ res. ⌜ res ≡ oneNumberBy command n ⌝ }
 {
     match command {
         0 => Command::Event(n),
@@ -102,13 +102,20 @@ fn numbered(command: usize, n: u32) -> Command
     }
 }
 
+// Word n as a number of at most `most`.
+fn number_at(text: &[u8], n: usize, most: u32) -> Number
+    ensures { λ res. ⌜ res ≡ numberAt (now (text .entry)) n most ⌝ }
+{
+    numerals::number(words::word(text, n), most)
+}
+
 // A command with one number, of 32 bits.
 fn of_number(command: usize, text: &[u8]) -> Command
-    ensures { λ res. ⌜ res ≡ withNumber (numbered command) (now (text .entry)) ⌝ }
+    ensures { λ res. ⌜ res ≡ withNumber (oneNumberBy command) (now (text .entry)) ⌝ }
 {
-    let number = numerals::number(words::word(text, 1), 4_294_967_295);
+    let number = number_at(text, 1, 4_294_967_295);
     match number {
-        Number::Is(n) => numbered(command, n),
+        Number::Is(n) => one_number_by(command, n),
         Number::Wrong => Command::Wrong(NO_NUMBER),
     }
 }
@@ -117,7 +124,7 @@ fn of_number(command: usize, text: &[u8]) -> Command
 fn turn_by(knob: u32, text: &[u8]) -> Command
     ensures { λ res. ⌜ res ≡ turnBy knob (now (text .entry)) ⌝ }
 {
-    let count = numerals::number(words::word(text, 2), 255);
+    let count = number_at(text, 2, 255);
     match count {
         Number::Is(n) => {
             let small = n as u8;
@@ -130,15 +137,15 @@ fn turn_by(knob: u32, text: &[u8]) -> Command
 fn turn(text: &[u8]) -> Command
     ensures { λ res. ⌜ res ≡ turnOf (now (text .entry)) ⌝ }
 {
-    let knob = numerals::number(words::word(text, 1), 4_294_967_295);
+    let knob = number_at(text, 1, 4_294_967_295);
     match knob {
         Number::Is(n) => turn_by(n, text),
         Number::Wrong => Command::Wrong(NO_NUMBER),
     }
 }
 
-fn kind_of(kind: usize, x: f64) -> Reading
-    ensures { λ res. ⌜ res ≡ kindOf kind x ⌝ }
+fn kind_by(kind: usize, x: f64) -> Reading
+    ensures { λ res. ⌜ res ≡ kindBy kind x ⌝ }
 {
     match kind {
         0 => Reading::Altitude(x),
@@ -154,7 +161,7 @@ fn reading_by(kind: usize, value: Value) -> Named
     ensures { λ res. ⌜ res ≡ readingBy kind value ⌝ }
 {
     match value {
-        Value::Is(x) => Named::Is(kind_of(kind, x)),
+        Value::Is(x) => Named::Is(kind_by(kind, x)),
         Value::Wrong => Named::Wrong(NO_VALUE),
     }
 }
@@ -194,17 +201,17 @@ fn damage_reading(text: &[u8]) -> Command
 }
 
 fn damage_pf(text: &[u8]) -> Command
-    ensures { λ res. ⌜ res ≡ pfOf (now (text .entry)) ⌝ }
+    ensures { λ res. ⌜ res ≡ damagePf (now (text .entry)) ⌝ }
 {
-    let number = numerals::number(words::word(text, 2), 255);
+    let number = number_at(text, 2, 255);
     match number {
         Number::Is(n) => Command::DamagePf(n),
         Number::Wrong => Command::Wrong(NO_BYTE),
     }
 }
 
-fn lateral_of(n: u64) -> Lateral
-    ensures { λ res. ⌜ res ≡ lateralOf n ⌝ }
+fn lateral_by(n: u64) -> Lateral
+    ensures { λ res. ⌜ res ≡ lateralBy n ⌝ }
 {
     match n {
         1 => Lateral::Roll,
@@ -215,8 +222,8 @@ fn lateral_of(n: u64) -> Lateral
     }
 }
 
-fn armed_of(n: u64) -> ArmedLateral
-    ensures { λ res. ⌜ res ≡ armedOf n ⌝ }
+fn armed_by(n: u64) -> ArmedLateral
+    ensures { λ res. ⌜ res ≡ armedBy n ⌝ }
 {
     match n {
         0 => ArmedLateral::Neither,
@@ -225,8 +232,8 @@ fn armed_of(n: u64) -> ArmedLateral
     }
 }
 
-fn vertical_of(n: u64) -> Vertical
-    ensures { λ res. ⌜ res ≡ verticalOf n ⌝ }
+fn vertical_by(n: u64) -> Vertical
+    ensures { λ res. ⌜ res ≡ verticalBy n ⌝ }
 {
     match n {
         1 => Vertical::Pitch,
@@ -244,7 +251,7 @@ fn vertical_of(n: u64) -> Vertical
 fn figure(text: &[u8], n: usize) -> u64
     ensures { λ res. ⌜ res ≡ figureAt (now (text .entry)) n ⌝ }
 {
-    let number = numerals::number(words::word(text, n), 4_294_967_295);
+    let number = number_at(text, n, 4_294_967_295);
     match number {
         Number::Is(k) => k as u64,
         Number::Wrong => 4_294_967_296,
@@ -252,48 +259,48 @@ fn figure(text: &[u8], n: usize) -> u64
 }
 
 // Lateral 0 is Off, whatever the other three numbers are.
-fn is_off(lateral: u64, armed: u64, vertical: u64, vappr: u64) -> bool
-    ensures { λ res. ⌜ res ≡ isOff lateral armed vertical vappr ⌝ }
+fn gives_off(lateral: u64, armed: u64, vertical: u64, vappr: u64) -> bool
+    ensures { λ res. ⌜ res ≡ givesOff lateral armed vertical vappr ⌝ }
 {
     (lateral == 0)
         & ((armed <= 4_294_967_295) & ((vertical <= 4_294_967_295) & (vappr <= 4_294_967_295)))
 }
 
-fn is_on(lateral: u64, armed: u64, vertical: u64, vappr: u64) -> bool
-    ensures { λ res. ⌜ res ≡ isOn lateral armed vertical vappr ⌝ }
+fn gives_on(lateral: u64, armed: u64, vertical: u64, vappr: u64) -> bool
+    ensures { λ res. ⌜ res ≡ givesOn lateral armed vertical vappr ⌝ }
 {
     (1 <= lateral)
         & ((lateral <= 5) & ((armed <= 2) & ((1 <= vertical) & ((vertical <= 8) & (vappr <= 1)))))
 }
 
-fn modes_of(lateral: u64, armed: u64, vertical: u64, vappr: u64) -> Modes
-    ensures { λ res. ⌜ res ≡ modesOf lateral armed vertical vappr ⌝ }
+fn modes_by(lateral: u64, armed: u64, vertical: u64, vappr: u64) -> Modes
+    ensures { λ res. ⌜ res ≡ modesBy lateral armed vertical vappr ⌝ }
 {
     Modes {
-        lateral: lateral_of(lateral),
-        armed: armed_of(armed),
-        vertical: vertical_of(vertical),
+        lateral: lateral_by(lateral),
+        armed: armed_by(armed),
+        vertical: vertical_by(vertical),
         vappr_armed: vappr == 1,
     }
 }
 
 // The set of four numbers.
-fn set_of(lateral: u64, armed: u64, vertical: u64, vappr: u64) -> Given
-    ensures { λ res. ⌜ res ≡ setOf lateral armed vertical vappr ⌝ }
+fn set_by(lateral: u64, armed: u64, vertical: u64, vappr: u64) -> Given
+    ensures { λ res. ⌜ res ≡ setBy lateral armed vertical vappr ⌝ }
 {
-    if is_off(lateral, armed, vertical, vappr) {
+    if gives_off(lateral, armed, vertical, vappr) {
         return Given::Is(ModeSet::Off);
     }
-    if is_on(lateral, armed, vertical, vappr) {
-        return Given::Is(ModeSet::On(modes_of(lateral, armed, vertical, vappr)));
+    if gives_on(lateral, armed, vertical, vappr) {
+        return Given::Is(ModeSet::On(modes_by(lateral, armed, vertical, vappr)));
     }
     Given::Wrong
 }
 
 fn damage_set(text: &[u8], part: u32) -> Command
-    ensures { λ res. ⌜ res ≡ boxSet part (now (text .entry)) ⌝ }
+    ensures { λ res. ⌜ res ≡ damageSet part (now (text .entry)) ⌝ }
 {
-    let given = set_of(
+    let given = set_by(
         figure(text, 3),
         figure(text, 4),
         figure(text, 5),
@@ -306,7 +313,7 @@ fn damage_set(text: &[u8], part: u32) -> Command
 }
 
 fn damage_reference(text: &[u8], part: u32, reference: u32) -> Command
-    ensures { λ res. ⌜ res ≡ boxReference part reference (now (text .entry)) ⌝ }
+    ensures { λ res. ⌜ res ≡ damageReference part reference (now (text .entry)) ⌝ }
 {
     let number = numerals::signed(words::word(text, 3));
     match number {
@@ -317,19 +324,19 @@ fn damage_reference(text: &[u8], part: u32, reference: u32) -> Command
 
 // Damage to a box: one of its references, or its set.
 fn damage_part(what: usize, part: u32, text: &[u8]) -> Command
-    ensures { λ res. ⌜ res ≡ boxBy what part (now (text .entry)) ⌝ }
+    ensures { λ res. ⌜ res ≡ damagePart what part (now (text .entry)) ⌝ }
 {
     if what < 7 {
-        return counted(text, 4, damage_reference(text, part, what as u32));
+        return with_words(text, 4, damage_reference(text, part, what as u32));
     }
     if what == 7 {
-        return counted(text, 7, damage_set(text, part));
+        return with_words(text, 7, damage_set(text, part));
     }
     Command::Wrong(NO_REFERENCE)
 }
 
 fn damage_box(part: u32, text: &[u8]) -> Command
-    ensures { λ res. ⌜ res ≡ boxBy (lookupOf (wordOf (now (text .entry)) 2) partNames 8) part (now (text .entry)) ⌝ }
+    ensures { λ res. ⌜ res ≡ damagePart (lookupOf (wordOf (now (text .entry)) 2) partNames 8) part (now (text .entry)) ⌝ }
 {
     let names = b"heading preselected held vertical-speed ias roll pitch set";
     let what = words::lookup(words::word(text, 2), names, 8);
@@ -344,8 +351,8 @@ fn damage_by(what: usize, text: &[u8]) -> Command
         return damage_box(what as u32, text);
     }
     match what {
-        4 => counted(text, 4, damage_reading(text)),
-        5 => counted(text, 3, damage_pf(text)),
+        4 => with_words(text, 4, damage_reading(text)),
+        5 => with_words(text, 3, damage_pf(text)),
         _ => Command::Wrong(NO_BOX),
     }
 }
@@ -363,14 +370,14 @@ fn command_by(command: usize, text: &[u8]) -> Command
     ensures { λ res. ⌜ res ≡ commandBy command (now (text .entry)) ⌝ }
 {
     if command < 5 {
-        return counted(text, 2, of_number(command, text));
+        return with_words(text, 2, of_number(command, text));
     }
     match command {
-        5 => counted(text, 3, turn(text)),
-        6 => counted(text, 3, reading(text)),
-        7 => counted(text, 1, Command::PowerOn),
-        8 => counted(text, 1, Command::Bench),
-        9 => counted(text, 1, Command::Panel),
+        5 => with_words(text, 3, turn(text)),
+        6 => with_words(text, 3, reading(text)),
+        7 => with_words(text, 1, Command::PowerOn),
+        8 => with_words(text, 1, Command::Bench),
+        9 => with_words(text, 1, Command::Panel),
         10 => damage(text),
         _ => Command::Wrong(NO_COMMAND),
     }

@@ -5,21 +5,15 @@ use mathlib.Core.Bool.{true}
 use Prim.Native.Nat.{ℕ, _≤_}
 use Rattle.modes.specs.declared.ModeSet.{ModeSet}
 use Rattle.modes.specs.Numbers.{lateralLaw, verticalLaw}
-use Rattle.bench.specs.declared.Reading.{Reading}
 use Rattle.bench.specs.declared.Bench.{Bench}
 use Rattle.bench.specs.Holds.{powerOn}
 use Rattle.bench.specs.Sound.{sound}
-use Rattle.calls.specs.Calls.{eventCall, turnCall, readingCall, sendCall, refreshCall, displayCall}
+use Rattle.calls.specs.Calls.{Call, next}
 
 -- power-on is sound, and of a sound bench every call, accepted or refused, makes a sound one
 pub record KeepsSound : Type 0 where
   pub power-on : sound powerOn ≡ true
-  pub event : (b : Bench) (word : ℕ) → sound b ≡ true → sound (eventCall b word .bench) ≡ true
-  pub turn : (b : Bench) (knob n : ℕ) → sound b ≡ true → sound (turnCall b knob n .bench) ≡ true
-  pub reading : (b : Bench) (r : Reading) → sound b ≡ true → sound (readingCall b r .bench) ≡ true
-  pub send : (b : Bench) (s : ℕ) → sound b ≡ true → sound (sendCall b s .bench) ≡ true
-  pub refresh : (b : Bench) (s : ℕ) → sound b ≡ true → sound (refreshCall b s .bench) ≡ true
-  pub display : (b : Bench) (s : ℕ) → sound b ≡ true → sound (displayCall b s .bench) ≡ true
+  pub call : (b : Bench) (c : Call) → sound b ≡ true → sound (next b c) ≡ true
 
 -- a set's laws are within 0 to 5 and 0 to 8, and 0 exactly if it is Off
 pub record LawsInRange (s : ModeSet) : Type 0 where

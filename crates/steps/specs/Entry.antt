@@ -1,43 +1,43 @@
 -- Entry: what a mode loads when it engages. Document 01, 'Event words'.
 use mathlib.Core.Bool.{Bool, not, _&&_, cond}
 use Prim.Native.Nat.{ℕ}
-use lib.IntN.{ℤ}
-use lib.Ieee.{Float}
-use Rattle.rounding.specs.Whole.{wholeOf}
 use Rattle.modes.specs.declared.ModeSet.{ModeSet}
 use Rattle.modes.specs.Sets.{Mode, ROLL, PITCH, VS, FLC, ALT, engagedIn}
 use Rattle.bench.specs.declared.References.{References}
 use Rattle.bench.specs.declared.Channel.{Channel}
 use Rattle.bench.specs.declared.Readings.{Readings}
+use Rattle.bench.specs.declared.Reading.{Reading}
 use Rattle.bench.specs.declared.Bench.{Bench}
-use Rattle.bench.specs.Ranges.{Range, clamped, altitudes, verticalSpeeds, speeds, rolls, pitches}
-use Rattle.bench.specs.Readings.{wholeIn}
-use Rattle.bench.specs.Holds.{side, withSide}
+use Rattle.bench.specs.Parts.{withBox, withSet, withReferences, withReference, atHeld, atVerticalSpeed, atIas, atRoll, atPitch}
+use Rattle.bench.specs.Ranges.{clamped, referenceRange}
+use Rattle.bench.specs.Readings.{wholeNumber}
+use Rattle.bench.specs.Sides.{side}
 
--- engaged then, and not engaged on that same side before the call
+-- engaged after a call, and not engaged on that same side before it
 abbrev pub newly : Mode → ModeSet → ModeSet → Bool
 newly x before after = engagedIn x after && not (engagedIn x before)
 
--- the rounded reading, clamped to range, or the reference as it was
-abbrev pub loaded : Bool → Range → Float → ℤ → ℤ
-loaded t r x was = cond t (clamped r (wholeIn (wholeOf x))) was
+-- the reference at a place takes a reading's whole value, clamped to its range
+unfoldable pub loaded : ℕ → Reading → References → References
+loaded place reading r = withReference place (clamped (referenceRange place) (wholeNumber reading)) r
 
--- ROLL loads roll, PITCH pitch, VS vertical speed, FLC airspeed, ALT held altitude
+-- what a mode that may be newly engaged loads
+abbrev pub loads : Mode → ℕ → Reading → ModeSet → ModeSet → References → References
+loads x place reading before after r = cond (newly x before after) (loaded place reading r) r
+
+-- the five modes that load a reference
 unfoldable pub entry : Readings → ModeSet → ModeSet → References → References
-entry w before after r = record {
-  heading = r .heading;
-  preselected = r .preselected;
-  held = loaded (newly ALT before after) altitudes (w .altitude) (r .held);
-  «vertical_speed» = loaded (newly VS before after) verticalSpeeds (w .«vertical_speed») (r .«vertical_speed»);
-  ias = loaded (newly FLC before after) speeds (w .airspeed) (r .ias);
-  roll = loaded (newly ROLL before after) rolls (w .roll) (r .roll);
-  pitch = loaded (newly PITCH before after) pitches (w .pitch) (r .pitch);
-}
+entry w before after r =
+    loads ALT atHeld (Reading.Altitude (w .altitude)) before after
+    (loads FLC atIas (Reading.Airspeed (w .airspeed)) before after
+    (loads VS atVerticalSpeed (Reading.VerticalSpeed (w .«vertical_speed»)) before after
+    (loads PITCH atPitch (Reading.Pitch (w .pitch)) before after
+    (loads ROLL atRoll (Reading.Roll (w .roll)) before after r))))
 
 -- a channel takes another set, with entry
-abbrev pub enter : Readings → ModeSet → Channel → Channel
-enter w after c = record { fd = c .fd; set = after; references = entry w (c .set) after (c .references) }
+unfoldable pub enter : Readings → ModeSet → Channel → Channel
+enter w after c = withReferences (entry w (c .set) after (c .references)) (withSet after c)
 
 -- side s takes another set, with entry
 unfoldable pub settled : ModeSet → ℕ → Bench → Bench
-settled after s b = withSide s (enter (b .readings) after (side b s)) b
+settled after s b = withBox s (enter (b .readings) after (side b s)) b

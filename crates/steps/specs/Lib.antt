@@ -1,3 +1,3 @@
 pub mod Entry
 pub mod Steps
-pub mod Tables
+pub mod Private

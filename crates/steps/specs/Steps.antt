@@ -1,63 +1,64 @@
--- The three steps of a call with an event. Document 01, 'Event words'. Each step is written for a side that is given, so that more than one could act.
-use mathlib.Core.Bool.{Bool, true, _||_, cond}
+-- The three steps of a call with an event. Document 01, 'Event words'. A step is written for a side that is given; `acts` of bench/specs/Sides.antt says which sides act.
+use mathlib.Core.Bool.{Bool, true, _&&_, _||_, cond}
 use Prim.Native.Nat.{ℕ}
-use lib.Dec.{eqb}
 use Rattle.modes.specs.declared.ModeSet.{ModeSet}
 use Rattle.modes.specs.declared.Event.{Event}
 use Rattle.modes.specs.Sets.{basicModes, inOn}
-use Rattle.modes.specs.Events.{lineOf, sharedAfter}
-use Rattle.bench.specs.declared.Channel.{Channel}
+use Rattle.modes.specs.Events.{lineOf}
+use Rattle.bench.specs.declared.Shared.{Shared}
 use Rattle.bench.specs.declared.Bench.{Bench}
-use Rattle.bench.specs.Holds.{side, inbox}
+use Rattle.bench.specs.Parts.{withShared, withBox, withFd}
+use Rattle.bench.specs.Sides.{otherSide, side, inbox, acts, onActing}
 use Rattle.steps.specs.Entry.{settled}
 
--- ---- first FD, AP, flag and PF, judged on the bench as handed in
+-- ---- the first step: flight directors, AP, flag and PF, all decided from the bench that came
 
--- a pressed FD toggles, but On stays On while the flag is set
+unfoldable pub sharedAfter : Event → Shared → Shared
+sharedAfter e s = record { pf = cond (lineOf e .transfers) (otherSide (s .pf)) (s .pf); ap = lineOf e .ap (s .ap); overspeed = lineOf e .flag (s .overspeed) }
+
+-- a pressed flight director toggles, but stays On while the flag is set
 abbrev pub toggledFd : Bool → Bool → Bool
 toggledFd flag fd = cond fd flag true
 
--- whether the event sets the active side's FD On
-unfoldable pub asked : Event → Bench → Bool
-asked e b = lineOf e .asksFd (b .shared .ap) (b .shared .overspeed) (side b (b .shared .pf) .set)
+-- side s acts and the event sets its flight director On
+unfoldable pub asksFor : Event → ℕ → Bench → Bool
+asksFor e s b = acts b s && lineOf e .asksFd (b .shared .ap) (b .shared .overspeed) (side b s .set)
 
-unfoldable pub fdAfter : Event → Bench → ℕ → Bool
-fdAfter e b s =
-    cond (lineOf e .pressed s) (toggledFd (b .shared .overspeed) (side b s .fd))
-    (cond (eqb s (b .shared .pf)) (side b s .fd || asked e b) (side b s .fd))
+-- a side that acts is set On where an acting side asks for it
+unfoldable pub setsFd : Event → ℕ → Bench → Bool
+setsFd e s b = acts b s && (asksFor e 0 b || asksFor e 1 b)
 
-abbrev pub withFd : Bool → Channel → Channel
-withFd fd c = record { fd = fd; set = c .set; references = c .references }
+unfoldable pub fdAfter : Event → ℕ → Bench → Bool
+fdAfter e s b = cond (lineOf e .pressed s) (toggledFd (b .shared .overspeed) (side b s .fd)) (side b s .fd || setsFd e s b)
+
+-- x with the FD of side s as the event leaves it, judged on b
+unfoldable pub withFdAfter : Event → ℕ → Bench → Bench → Bench
+withFdAfter e s b x = withBox s (withFd (fdAfter e s b) (side b s)) x
 
 unfoldable pub firstStep : Event → Bench → Bench
-firstStep e b = record {
-  shared = sharedAfter e (b .shared);
-  counts = b .counts;
-  readings = b .readings;
-  left = withFd (fdAfter e b 0) (b .left);
-  right = withFd (fdAfter e b 1) (b .right);
-  «left_inbox» = b .«left_inbox»;
-  «right_inbox» = b .«right_inbox»;
-}
+firstStep e b = withFdAfter e 0 b (withFdAfter e 1 b (withShared (sharedAfter e (b .shared)) b))
 
--- ---- then side s is On exactly if its FD is On, the FD in its inbox is On, or AP is engaged; coming on gives ROLL and PITCH
+-- ---- the second step, the On rule: a side has modes while its own FD, the one in its inbox or AP is on; a side that comes on gets ROLL and PITCH
+
+unfoldable pub isOn : ℕ → Bench → Bool
+isOn s b = side b s .fd || inbox b s .fd || b .shared .ap
 
 abbrev pub comingOn : ModeSet → ModeSet
 comingOn ModeSet.Off = ModeSet.On basicModes
 comingOn (ModeSet.On m) = ModeSet.On m
 
-unfoldable pub secondStep : Bench → ℕ → ModeSet
-secondStep b s = cond (side b s .fd || inbox b s .fd || b .shared .ap) (comingOn (side b s .set)) ModeSet.Off
+unfoldable pub secondStep : ℕ → Bench → ModeSet
+secondStep s b = cond (isOn s b) (comingOn (side b s .set)) ModeSet.Off
 
--- ---- last the mode changes, judged on the set that the second step left, and none if it is Off; the flag is the one handed in
+-- ---- the third step: the event's mode change, made of what the second step left if that is On; the flag is the one that came
 
 unfoldable pub thirdStep : Event → Bool → ModeSet → ModeSet
 thirdStep e flag s = inOn (lineOf e .change flag) s
 
 -- side s of a bench after the first step goes through the second and the third, with entry
 unfoldable pub laterSteps : Event → Bool → ℕ → Bench → Bench
-laterSteps e flag s b = settled (thirdStep e flag (secondStep b s)) s b
+laterSteps e flag s b = settled (thirdStep e flag (secondStep s b)) s b
 
--- the active side is the one after the first step
+-- the sides that act after the first step
 unfoldable pub threeSteps : Event → Bench → Bench
-threeSteps e b = laterSteps e (b .shared .overspeed) (sharedAfter e (b .shared) .pf) (firstStep e b)
+threeSteps e b = onActing (laterSteps e (b .shared .overspeed)) (firstStep e b)

@@ -1,64 +1,64 @@
 // The three steps of a call with an event, and entry.
 use bench::Bench;
-use bench::Channel;
+use bench::Reading;
 use bench::Readings;
 use bench::References;
+use bench::Shared;
+use bench::parts::HELD;
+use bench::parts::IAS;
+use bench::parts::PITCH;
+use bench::parts::ROLL;
+use bench::parts::VERTICAL_SPEED;
+use bench::parts::box_of;
+use bench::parts::with_box;
+use bench::side_acts;
 use modes::Event;
 use modes::ModeSet;
+use modes::numbers::lateral_law;
+use modes::numbers::vertical_law;
 ghost use mathlib.Core.Path.{_≡_};
-ghost use lib.Dec.{eqb};
-ghost use mathlib.Core.Bool.{_&&_, not};
-ghost use Rattle.modes.specs.Numbers.{lateralLaw, verticalLaw};
 ghost use Rattle.modes.specs.Events.{lineOf};
-ghost use Rattle.bench.specs.Ranges.{range};
+ghost use Rattle.bench.specs.Sides.{whereActing};
 ghost use Rattle.steps.specs.Entry.{loaded, entry, settled};
-ghost use Rattle.steps.specs.Tables.{loadedAll};
-ghost use Rattle.steps.specs.Steps.{toggledFd, asked, fdAfter, withFd, firstStep, comingOn, secondStep, thirdStep, laterSteps, threeSteps};
+ghost use Rattle.steps.specs.Private.{lateralEntry, verticalEntry};
+ghost use Rattle.steps.specs.Steps.{sharedAfter, toggledFd, asksFor, fdAfter, withFdAfter, firstStep, comingOn, secondStep, thirdStep, laterSteps, threeSteps};
 
-// Whether a law is shown after a call and was not before it.
-fn newly(law: u32, before: u32, after: u32) -> bool
-    ensures { λ res. ⌜ res ≡ eqb after law && not (eqb before law) ⌝ }
+// The references with a reading's whole value at a place, clamped to its range.
+fn load(r: References, place: u32, reading: Reading) -> References
+    ensures { λ res. ⌜ res ≡ loaded place reading r ⌝ }
 {
-    (after == law) & (before != law)
+    let range = bench::ranges::reference_range(place);
+    let whole = bench::feed::whole_number(reading);
+    bench::parts::with_reference(r, place, bench::ranges::clamped_sum(range, whole, 0))
 }
 
-// The rounded reading, clamped, or the reference as it was.
-fn load(t: bool, low: i32, high: i32, x: f64, was: i32) -> i32
-    ensures { λ res. ⌜ res ≡ loaded t (range low high) x was ⌝ }
+// What a newly engaged lateral mode loads: ROLL, law 1, roll.
+fn enter_lateral(w: Readings, was: u32, law: u32, r: References) -> References
+    ensures { λ res. ⌜ res ≡ lateralEntry w was law r ⌝ }
 {
-    if t {
-        let whole = bench::whole_reading(x);
-        rotation::clamp_add(whole, 0, low, high)
-    } else {
-        was
+    if was == law {
+        return r;
+    }
+    match law {
+        1 => load(r, ROLL, Reading::Roll(w.roll)),
+        _ => r,
     }
 }
 
-// References on entry, by the laws that are shown before and after.
-fn load_references(
-    w: Readings,
-    r: References,
-    roll: bool,
-    pitch: bool,
-    vs: bool,
-    flc: bool,
-    alt: bool,
-) -> References
-    ensures { λ res. ⌜ res ≡ loadedAll w r roll pitch vs flc alt ⌝ }
+// What a newly engaged vertical mode loads: PITCH, law 1, pitch; VS, 2, vertical speed; FLC, 3,
+// airspeed; ALT, 4, altitude.
+fn enter_vertical(w: Readings, was: u32, law: u32, r: References) -> References
+    ensures { λ res. ⌜ res ≡ verticalEntry w was law r ⌝ }
 {
-    let held = load(alt, -8000, 56000, w.altitude, r.held);
-    let vertical_speed = load(vs, -50, 50, w.vertical_speed, r.vertical_speed);
-    let ias = load(flc, 60, 400, w.airspeed, r.ias);
-    let roll = load(roll, -27, 27, w.roll, r.roll);
-    let pitch = load(pitch, -20, 20, w.pitch, r.pitch);
-    References {
-        heading: r.heading,
-        preselected: r.preselected,
-        held,
-        vertical_speed,
-        ias,
-        roll,
-        pitch,
+    if was == law {
+        return r;
+    }
+    match law {
+        1 => load(r, PITCH, Reading::Pitch(w.pitch)),
+        2 => load(r, VERTICAL_SPEED, Reading::VerticalSpeed(w.vertical_speed)),
+        3 => load(r, IAS, Reading::Airspeed(w.airspeed)),
+        4 => load(r, HELD, Reading::Altitude(w.altitude)),
+        _ => r,
     }
 }
 
@@ -66,46 +66,54 @@ fn load_references(
 pub fn enter_references(w: Readings, before: ModeSet, after: ModeSet, r: References) -> References
     ensures { λ res. ⌜ res ≡ entry w before after r ⌝ }
 {
-    let lateral_was = modes::numbers::lateral_law(before);
-    let lateral = modes::numbers::lateral_law(after);
-    let vertical_was = modes::numbers::vertical_law(before);
-    let vertical = modes::numbers::vertical_law(after);
-    let roll = newly(1, lateral_was, lateral);
-    let pitch = newly(1, vertical_was, vertical);
-    let vs = newly(2, vertical_was, vertical);
-    let flc = newly(3, vertical_was, vertical);
-    let alt = newly(4, vertical_was, vertical);
-    load_references(w, r, roll, pitch, vs, flc, alt)
+    let lateral = enter_lateral(w, lateral_law(before), lateral_law(after), r);
+    enter_vertical(w, vertical_law(before), vertical_law(after), lateral)
 }
 
 // A side takes another set, with entry.
-pub fn settle(b: Bench, number: u32, after: ModeSet) -> Bench
-    ensures { λ res. ⌜ res ≡ settled after number b ⌝ }
+pub fn settle(b: Bench, side: u32, after: ModeSet) -> Bench
+    ensures { λ res. ⌜ res ≡ settled after side b ⌝ }
 {
-    let c = bench::side_of(b, number);
+    let c = box_of(b, side);
     let before = c.set;
     let was = c.references;
     let readings = b.readings;
     let references = enter_references(readings, before, after, was);
-    bench::with_side(
-        b,
-        number,
-        Channel {
-            fd: c.fd,
-            set: after,
-            references,
-        },
-    )
+    let next = bench::parts::with_set(c, after);
+    with_box(b, side, bench::parts::with_references(next, references))
 }
 
-// Whether an event sets the active side's FD On.
-fn asks(e: Event, b: Bench) -> bool
-    ensures { λ res. ⌜ res ≡ asked e b ⌝ }
+// AP, flag and PF after an event.
+fn shared_after(e: Event, s: Shared) -> Shared
+    ensures { λ res. ⌜ res ≡ sharedAfter e s ⌝ }
+{
+    let ap = events::ap_after(e, s.ap);
+    let overspeed = events::overspeed_after(e, s.overspeed);
+    let moves = events::transfers(e);
+    if moves {
+        Shared {
+            pf: bench::other_side(s.pf),
+            ap,
+            overspeed,
+        }
+    } else {
+        Shared {
+            pf: s.pf,
+            ap,
+            overspeed,
+        }
+    }
+}
+
+// Whether a side acts and an event sets its FD On.
+fn asks_for(e: Event, side: u32, b: Bench) -> bool
+    ensures { λ res. ⌜ res ≡ asksFor e side b ⌝ }
 {
     let shared = b.shared;
-    let active = bench::side_of(b, shared.pf);
-    let set = active.set;
-    events::asks_fd(e, shared.ap, shared.overspeed, set)
+    let c = box_of(b, side);
+    let set = c.set;
+    let asks = events::asks_fd(e, shared.ap, shared.overspeed, set);
+    side_acts(b, side) & asks
 }
 
 // A pressed FD that is On goes Off only with the flag clear.
@@ -116,44 +124,35 @@ fn toggle(flag: bool, fd: bool) -> bool
 }
 
 // A side's FD after the first step.
-fn fd_after(e: Event, b: Bench, number: u32) -> bool
-    ensures { λ res. ⌜ res ≡ fdAfter e b number ⌝ }
+fn fd_after(e: Event, side: u32, b: Bench) -> bool
+    ensures { λ res. ⌜ res ≡ fdAfter e side b ⌝ }
 {
     let shared = b.shared;
-    let c = bench::side_of(b, number);
-    let on = asks(e, b);
-    let pressed = events::fd_pressed(e, number);
+    let c = box_of(b, side);
+    let pressed = events::fd_pressed(e, side);
     if pressed {
         return toggle(shared.overspeed, c.fd);
     }
-    if number == shared.pf { c.fd | on } else { c.fd }
+    let acts = side_acts(b, side);
+    c.fd | (acts & (asks_for(e, 0, b) | asks_for(e, 1, b)))
 }
 
-fn with_fd(c: Channel, fd: bool) -> Channel
-    ensures { λ res. ⌜ res ≡ withFd fd c ⌝ }
+// The bench `next` with a side's FD as an event leaves it, judged on `b`.
+fn with_fd_after(e: Event, side: u32, b: Bench, next: Bench) -> Bench
+    ensures { λ res. ⌜ res ≡ withFdAfter e side b next ⌝ }
 {
-    let mut next = c;
-    next.fd = fd;
-    next
+    let c = box_of(b, side);
+    with_box(next, side, bench::parts::with_fd(c, fd_after(e, side, b)))
 }
 
 // FD, AP, flag and PF, judged on the bench as handed in.
 fn first_step(e: Event, b: Bench) -> Bench
     ensures { λ res. ⌜ res ≡ firstStep e b ⌝ }
 {
-    let shared = b.shared;
-    let left = b.left;
-    let right = b.right;
-    let left_fd = fd_after(e, b, 0);
-    let right_fd = fd_after(e, b, 1);
-    let next_shared = events::shared_after(e, shared);
-    let next_left = with_fd(left, left_fd);
-    let next_right = with_fd(right, right_fd);
-    let mut next = b;
-    next.shared = next_shared;
-    next.left = next_left;
-    next.right = next_right;
-    next
+    let was = b.shared;
+    let next = bench::parts::with_shared(b, shared_after(e, was));
+    let right = with_fd_after(e, 1, b, next);
+    with_fd_after(e, 0, b, right)
 }
 
 fn coming_on(s: ModeSet) -> ModeSet
@@ -166,12 +165,12 @@ fn coming_on(s: ModeSet) -> ModeSet
 }
 
 // The set of a side by the On rule.
-pub fn second_step(b: Bench, number: u32) -> ModeSet
-    ensures { λ res. ⌜ res ≡ secondStep b number ⌝ }
+pub fn second_step(side: u32, b: Bench) -> ModeSet
+    ensures { λ res. ⌜ res ≡ secondStep side b ⌝ }
 {
     let shared = b.shared;
-    let c = bench::side_of(b, number);
-    let sent = bench::inbox_of(b, number);
+    let c = box_of(b, side);
+    let sent = box_of(b, bench::parts::inbox_of(side));
     let set = c.set;
     if c.fd | sent.fd | shared.ap {
         coming_on(set)
@@ -189,12 +188,17 @@ fn third_step(e: Event, flag: bool, s: ModeSet) -> ModeSet
     }
 }
 
-fn later_steps(e: Event, flag: bool, number: u32, b: Bench) -> Bench
-    ensures { λ res. ⌜ res ≡ laterSteps e flag number b ⌝ }
+// The second and the third step of a side that acts, with entry; another side is left as it is.
+fn later_steps(e: Event, flag: bool, side: u32, b: Bench) -> Bench
+    ensures { λ res. ⌜ res ≡ whereActing (laterSteps e flag) side b ⌝ }
 {
-    let on = second_step(b, number);
-    let changed = third_step(e, flag, on);
-    settle(b, number, changed)
+    let acts = side_acts(b, side);
+    if acts {
+        let on = second_step(side, b);
+        settle(b, side, third_step(e, flag, on))
+    } else {
+        b
+    }
 }
 
 // The bench after an event.
@@ -202,7 +206,7 @@ pub fn three_steps(e: Event, b: Bench) -> Bench
     ensures { λ res. ⌜ res ≡ threeSteps e b ⌝ }
 {
     let shared = b.shared;
-    let next_shared = events::shared_after(e, shared);
     let first = first_step(e, b);
-    later_steps(e, shared.overspeed, next_shared.pf, first)
+    let left = later_steps(e, shared.overspeed, 0, first);
+    later_steps(e, shared.overspeed, 1, left)
 }

@@ -1,8 +1,8 @@
--- What the definitions of specs/Words.antt mean. Assumes nothing.
+-- The laws of specs/Laws.antt: a run is all that its test holds of, and the test fails where it ends. Assumes nothing.
 use mathlib.Core.Path.{_≡_, refl, sym, ap, _∙_}
 use mathlib.Core.Bool.{Bool, true, false, not, cond, false≢true}
-use mathlib.Core.List.{List, [], _∷_, _++_}
-use Prim.Native.Nat.{ℕ, zero, suc, _≤_, _<_}
+use mathlib.Core.List.{List, [], _∷_}
+use Prim.Native.Nat.{ℕ, zero, suc, _<_}
 use native.Mathlib.Nat.{le-of-suc-le-suc, not-suc-le-zero}
 use native.Mathlib.Omega.{arith}
 use borrow.Author.Tests.{eqb-true, eqb-false, not-true, not-false}
@@ -10,9 +10,10 @@ use lib.Dec.{eqb}
 use lib.ListN.{length, getD, take, drop, take-append-drop, length-take}
 use lib.Seq.{getD-take}
 use Rattle.words.specs.Words.{run, leading, placeOf, upTo, pastSpaces, firstWord, pastWord, rest, wordOf, sameBytes, lookupOf}
+use Rattle.words.specs.Laws.{IsFirst, WordLaws, Example}
 use Rattle.words.proofs.Names.{same-refl, same-true}
 
--- ---- a word holds no space
+-- ---- a run
 
 -- a test holds of each byte of its run
 run-holds : (p : ℕ → Bool) (text : List ℕ) (i : ℕ) → i < run p text → p (getD text i 0) ≡ true
@@ -24,17 +25,13 @@ run-holds p (b ∷ bs) i h = go (p b) i refl h (run-holds p bs)
     go true (suc j) e h f = f j (le-of-suc-le-suc h)
     go false i e h f = absurd (not-suc-le-zero h)
 
-pub no-byte : (x : ℕ) (text : List ℕ) (i : ℕ) → i < length (upTo x text) → getD (upTo x text) i 0 ≡ x → ⊥
+no-byte : (x : ℕ) (text : List ℕ) (i : ℕ) → i < length (upTo x text) → getD (upTo x text) i 0 ≡ x → ⊥
 unfolding upTo
 no-byte x text i h e =
     let l : i < placeOf x text = omega (arith, length-take (placeOf x text) text) in
     eqb-false _ _ (not-true _ (run-holds _ text i l)) (sym (getD-take (placeOf x text) text i 0 l) ∙ e)
 
-pub no-space : (text : List ℕ) (n i : ℕ) → i < length (wordOf text n) → getD (wordOf text n) i 0 ≡ 32 → ⊥
-unfolding wordOf firstWord
-no-space text n = no-byte 32 (pastSpaces (rest n text))
-
--- ---- no space stands in front of a word, and what follows it, if anything, starts with one
+-- ---- where a run ends
 
 behind-run : (p : ℕ → Bool) (text : List ℕ) → 0 < length (drop (run p text) text) → p (getD (drop (run p text) text) 0 0) ≡ false
 behind-run p [] h = absurd (not-suc-le-zero h)
@@ -47,32 +44,13 @@ behind-run p (b ∷ bs) h = go (p b) refl h (behind-run p bs)
     go true e h f = f h
     go false e h f = e
 
-pub word-start : (text : List ℕ) → 0 < length (pastSpaces text) → getD (pastSpaces text) 0 0 ≡ 32 → ⊥
-unfolding pastSpaces
-word-start text h = eqb-false _ _ (behind-run (λ b. eqb b 32) text h)
-
-pub word-end : (text : List ℕ) → 0 < length (pastWord text) → getD (pastWord text) 0 0 ≡ 32
-unfolding pastWord
-word-end text h = eqb-true _ _ (not-false _ (behind-run (λ b. not (eqb b 32)) (pastSpaces text) h))
-
--- ---- a text is its leading spaces, its first word and what follows that
-
-pub whole : (text : List ℕ) → take (leading text) text ++ (firstWord text ++ pastWord text) ≡ text
-unfolding firstWord pastWord upTo pastSpaces
-whole text = rw take-append-drop (take-append-drop (leading text) text)
-
--- ---- lookupOf gives the first name that is w
-
-pub record IsFirst (w names : List ℕ) (total i : ℕ) : Type 0 where
-  pub within : i ≤ total
-  pub is : i < total → wordOf names i ≡ w
-  pub before : (j : ℕ) → j < i → wordOf names j ≡ w → ⊥
+-- ---- the first name that is w
 
 rest-past : (n : ℕ) (text : List ℕ) → rest n (pastWord text) ≡ rest (suc n) text
 rest-past zero text = refl
 rest-past (suc n) text = ap pastWord (rest-past n text)
 
-pub lookup-first : (w names : List ℕ) (total : ℕ) → IsFirst w names total (lookupOf w names total)
+lookup-first : (w names : List ℕ) (total : ℕ) → IsFirst w names total (lookupOf w names total)
 unfolding wordOf
 lookup-first w names zero = record { within = omega arith; is = λ h. absurd (not-suc-le-zero h); before = λ j h. absurd (not-suc-le-zero h) }
 lookup-first w names (suc n) = go (sameBytes w (firstWord names)) refl (lookup-first w (pastWord names) n)
@@ -88,27 +66,18 @@ lookup-first w names (suc n) = go (sameBytes w (firstWord names)) refl (lookup-f
         first zero h g = false≢true (sym e ∙ rw g (same-refl w))
         first (suc j) h g = f .before j (le-of-suc-le-suc h) (sym (later j) ∙ g)
 
--- ---- an example: a line with two words
+-- ---- all of them
 
--- "event"
-abbrev event : List ℕ
-event = 101 ∷ 118 ∷ 101 ∷ 110 ∷ 116 ∷ []
-
--- "16"
-abbrev sixteen : List ℕ
-sixteen = 49 ∷ 54 ∷ []
-
--- " event  16"
-abbrev line : List ℕ
-line = 32 ∷ event ++ 32 ∷ 32 ∷ sixteen
-
-pub record Example : Type 0 where
-  pub first : wordOf line 0 ≡ event
-  pub second : wordOf line 1 ≡ sixteen
-  pub none : wordOf line 2 ≡ []
-  pub found : lookupOf sixteen line 2 ≡ 1
-  pub missing : lookupOf (54 ∷ []) line 2 ≡ 2
-  pub key : upTo 32 (event ++ 32 ∷ sixteen) ≡ event
+pub word-laws : WordLaws
+unfolding wordOf firstWord pastWord upTo pastSpaces
+word-laws = record {
+  no-byte = no-byte;
+  no-space = λ text n. no-byte 32 (pastSpaces (rest n text));
+  word-start = λ text h. eqb-false _ _ (behind-run (λ b. eqb b 32) text h);
+  word-end = λ text h. eqb-true _ _ (not-false _ (behind-run (λ b. not (eqb b 32)) (pastSpaces text) h));
+  whole = λ text. rw take-append-drop (take-append-drop (leading text) text);
+  lookup-first = lookup-first;
+}
 
 pub example : Example
 unfolding wordOf firstWord pastWord upTo pastSpaces

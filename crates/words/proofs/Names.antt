@@ -38,19 +38,19 @@ same-is false {s} {t} {u} f e = go (sameBytes s u) refl
 -- ---- the loop
 
 -- i names are passed, and none of them is w
-pub record Passed (w names : List ℕ) (total i : ℕ) : Type 0 where
+pub record PassedNames (w names : List ℕ) (total i : ℕ) : Type 0 where
   pub is : lookupOf w names total ≡ i + lookupOf w (rest i names) (total - i)
   pub within : i ≤ total
 
 module _ {w names : List ℕ} {total : ℕ} where
-  pub none : Passed w names total 0
+  pub none : PassedNames w names total 0
   none = record { is = rw sub-zero (omega arith); within = omega arith }
 
-  module _ {i : ℕ} (past : Passed w names total i) where
+  module _ {i : ℕ} (past : PassedNames w names total i) where
     left : i < total → total - i ≡ suc (total - suc i)
     left h = omega arith
 
-    pub more : i < total → sameBytes w (wordOf names i) ≡ false → Passed w names total (i + 1)
+    pub more : i < total → sameBytes w (wordOf names i) ≡ false → PassedNames w names total (i + 1)
     unfolding wordOf
     more h t =
         let e : lookupOf w (rest i names) (total - i) ≡ suc (lookupOf w (rest (suc i) names) (total - suc i)) = rw (left h, t) in

@@ -1,14 +1,12 @@
 // The words of a line of text: runs of bytes other than spaces. A word that is not there is empty.
 ghost use mathlib.Core.Path.{_≡_};
-ghost use Prim.Native.Nat.{_≤_};
-ghost use lib.ListN.{length};
 ghost use Rattle.words.specs.Words.{leading, placeOf, upTo, pastSpaces, firstWord, pastWord, wordOf, lookupOf};
 
 const SPACE: u8 = 32;
 
 // How many spaces a text starts with.
 fn spaces(text: &[u8]) -> usize
-    ensures { λ res. ⌜ (res ≡ leading (now (text .entry))) × (res ≤ length (now (text .entry))) ⌝ }
+    ensures { λ res. ⌜ res ≡ leading (now (text .entry)) ⌝ }
 {
     let mut count = 0;
     while count < text.len() {
@@ -21,8 +19,8 @@ fn spaces(text: &[u8]) -> usize
 }
 
 // Where a byte first stands in a text, or the text's length.
-fn place(text: &[u8], byte: u8) -> usize
-    ensures { λ res. ⌜ (res ≡ placeOf byte (now (text .entry))) × (res ≤ length (now (text .entry))) ⌝ }
+pub fn place(text: &[u8], byte: u8) -> usize
+    ensures { λ res. ⌜ res ≡ placeOf byte (now (text .entry)) ⌝ }
 {
     let mut at = 0;
     while at < text.len() {

@@ -1,4 +1,4 @@
--- `bench::power_on` meets its contract. Assumes nothing.
+-- `bench::power_on` meets its contract: the four boxes hold the same channel, and each number and float is the one named. Assumes nothing.
 use lib.Ieee.{ofBits}
 use Rattle.bench.specs.Holds.{powerOn}
 use borrow.Author.Needs.{needs}
@@ -7,11 +7,4 @@ use Rattle.bench.proofs.power_on.Tie as tie
 
 pub power-on-spec : {M : Type 1} → statement M
 unfolding powerOn ofBits
-power-on-spec =
-    tie.close
-    (tie.spec
-    (λ c κs. search needs)
-    (λ c κs. search needs)
-    (λ c κs. search needs)
-    (λ c κs. search needs)
-    (λ c. rw (c .start-channel4 .ensures, c .before .start-channel3 .ensures, c .before .before .start-channel2 .ensures, c .before .before .before .start-channel .ensures)))
+power-on-spec = tie.close (tie.spec (λ c κs. search needs) (λ c. cc))

@@ -1,22 +1,32 @@
--- `calls::display` meets its contract. Assumes nothing.
-use borrow.Author.Tests.{not-true, not-false, le-leb, lt-leb}
-use Rattle.calls.specs.Calls.{displayCall}
+-- `calls::display` meets its contract: a number that is no side is refused with all zeros, and a side is shown. Assumes nothing.
+use mathlib.Core.Path.{_≡_, refl, sym, _∙_}
+use Rattle.calls.specs.Calls.{Call, refusal, displayAnswer}
+use Rattle.calls.specs.Displays.{shown, blank}
+use Rattle.calls.proofs.Answered.{if-refused, if-accepted, next-refused, next-accepted}
 use borrow.Author.Needs.{needs}
 use Rattle.calls.proofs.display.Statement.{statement}
 use Rattle.calls.proofs.display.Tie as tie
 
+-- the refusal is that of the call
+found : (c : tie.After-refusal-of) → let at-start = c .before .before in c .refusal-of .result ≡ refusal (at-start .args .b) (Call.display (at-start .args .side))
+unfolding refusal
+found c = simp (c .refusal-of .ensures, c .before .side-refusal .ensures)
+
+returns : tie.Need-returns
+unfolding displayAnswer
+returns c =
+    let some = c .before .if1 .taken in
+    let at-found = c .before .before in
+    let at-start = at-found .before .before in
+    let h = found at-found in
+    λ i. record { refusal = h i; display = (c .blank-display .ensures ∙ if-refused _ _ _ h some (shown (at-start .args .b) (at-start .args .side)) blank) i; bench = next-refused _ _ _ h some i }
+
+returns-2 : tie.Need-returns-2
+unfolding displayAnswer
+returns-2 c =
+    let none = c .before .if1 .left in
+    let h = found (c .before .before) in
+    λ i. record { refusal = (sym none ∙ h) i; display = (c .show .ensures ∙ if-accepted _ _ _ h none _ blank) i; bench = next-accepted _ _ _ h none refl i }
+
 pub display-spec : {M : Type 1} → statement M
-unfolding displayCall
-display-spec =
-    tie.close
-    (tie.spec
-    (λ c κs. search needs)
-    (λ c κs. search needs)
-    (λ c κs. search needs)
-    (λ c. rw (← c .before .before .before .is-sound .ensures, not-true (c .before .before .before .is-sound .result) (c .before .before .if1 .taken), c .display-answer .ensures, c .before .blank-display .ensures))
-    (λ c κs. search needs)
-    (λ c κs. search needs)
-    (λ c. rw (← c .before .before .before .before .is-sound .ensures, not-false (c .before .before .before .before .is-sound .result) (c .before .before .before .if1 .left), lt-leb _ _ (c .before .before .if2 .taken), c .display-answer2 .ensures, c .before .blank-display2 .ensures))
-    (λ c κs. search needs)
-    (λ c κs. search needs)
-    (λ c. rw (← c .before .before .before .before .is-sound .ensures, not-false (c .before .before .before .before .is-sound .result) (c .before .before .before .if1 .left), le-leb _ _ (c .before .before .if2 .left), c .display-answer3 .ensures, c .before .show .ensures)))
+display-spec = tie.close (tie.spec (λ c κs. search needs) (λ c κs. search needs) (λ c κs. search needs) returns (λ c κs. search needs) returns-2)

@@ -1,22 +1,21 @@
--- `calls::reading` meets its contract. Assumes nothing.
-use mathlib.Core.Path.{sym, _∙_}
-use borrow.Author.Tests.{ne-eqb, not-true, not-false}
-use Rattle.calls.specs.Calls.{readingCall}
+-- `calls::reading` meets its contract: a reading that its kind does not take is refused, and another is stored. Assumes nothing.
+use mathlib.Core.Path.{_≡_}
+use Rattle.calls.specs.Calls.{Call, refusal}
+use Rattle.calls.proofs.Answered.{answer-refused, answer-accepted}
 use borrow.Author.Needs.{needs}
 use Rattle.calls.proofs.reading.Statement.{statement}
 use Rattle.calls.proofs.reading.Tie as tie
 
+-- the refusal is that of the call
+found : (c : tie.After-refusal-of) → let at-start = c .before .before in c .refusal-of .result ≡ refusal (at-start .args .b) (Call.reading (at-start .args .r))
+unfolding refusal
+found c = simp (c .refusal-of .ensures, c .before .reading-refusal .ensures)
+
+returns : tie.Need-returns
+returns c = answer-refused _ _ _ (found (c .before)) (c .if1 .taken)
+
+returns-2 : tie.Need-returns-2
+returns-2 c = let at-test = c .before in answer-accepted _ _ _ (found (at-test .before)) (at-test .if1 .left) (c .receive .ensures)
+
 pub reading-spec : {M : Type 1} → statement M
-unfolding readingCall
-reading-spec =
-    tie.close
-    (tie.spec
-    (λ c κs. search needs)
-    (λ c κs. search needs)
-    (λ c. rw (← c .before .before .is-sound .ensures, not-true (c .before .before .is-sound .result) (c .before .if1 .taken)) (c .answer .ensures))
-    (λ c κs. search needs)
-    (λ c κs. search needs)
-    (λ c κs. search needs)
-    (λ c κs. search needs)
-    (λ c. rw (← c .before .before .before .before .before .is-sound .ensures, not-false (c .before .before .before .before .before .is-sound .result) (c .before .before .before .before .if1 .left), sym (c .before .before .before .reading-refusal .ensures) ∙ c .before .before .if2 .taken, c .answer2 .ensures, c .before .receive .ensures))
-    (λ c. rw (← c .before .before .before .before .is-sound .ensures, not-false (c .before .before .before .before .is-sound .result) (c .before .before .before .if1 .left), c .answer3 .ensures, ← c .before .before .reading-refusal .ensures, ne-eqb _ _ (c .before .if2 .left))))
+reading-spec = tie.close (tie.spec (λ c κs. search needs) (λ c κs. search needs) returns (λ c κs. search needs) returns-2)

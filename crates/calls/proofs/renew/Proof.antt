@@ -1,17 +1,16 @@
--- `calls::renew` meets its contract. Assumes nothing.
-use borrow.Author.Tests.{eq-eqb, ne-eqb}
+-- `calls::renew` meets its contract: the test is whether the side acts. Assumes nothing.
 use Rattle.calls.specs.Sends.{refreshed}
 use borrow.Author.Needs.{needs}
 use Rattle.calls.proofs.renew.Statement.{statement}
 use Rattle.calls.proofs.renew.Tie as tie
 
-pub renew-spec : {M : Type 1} → statement M
+returns : tie.Need-returns
 unfolding refreshed
-renew-spec =
-    tie.close
-    (tie.spec
-    (λ c κs. search needs)
-    (λ c κs. search needs)
-    (λ c κs. search needs)
-    (λ c. rw (eq-eqb _ _ (c .before .before .if1 .taken), c .settle .ensures, c .before .second-step .ensures))
-    (λ c. rw (ne-eqb _ _ (c .before .if1 .left)) (c .take .ensures)))
+returns c = rw (← c .before .before .before .side-acts .ensures, c .before .before .if1 .taken) (simp (c .settle .ensures, c .before .second-step .ensures))
+
+returns-2 : tie.Need-returns-2
+unfolding refreshed
+returns-2 c = rw (← c .before .before .side-acts .ensures, c .before .if1 .left) (c .take .ensures)
+
+pub renew-spec : {M : Type 1} → statement M
+renew-spec = tie.close (tie.spec (λ c κs. search needs) (λ c κs. search needs) (λ c κs. search needs) (λ c κs. search needs) returns returns-2)

@@ -1,19 +1,22 @@
--- `changes::clear_nav` meets its contract. Assumes nothing.
-use mathlib.Core.Path.{sym, _∙_}
-use mathlib.Core.Bool.{true, false}
-use borrow.Author.Tests.{eq-eqb, ne-eqb}
-use Rattle.changes.proofs.Joins.{nav-cleared}
+-- `changes::clear_nav` meets its contract: where law 3 is shown NAV is engaged, and the rule then engages ROLL. Assumes nothing.
+use Rattle.changes.proofs.Joins.{shows, shows-not, nav-cleared}
 use borrow.Author.Needs.{needs}
 use Rattle.changes.proofs.clear_nav.Statement.{statement}
 use Rattle.changes.proofs.clear_nav.Tie as tie
 
+returns : tie.Need-returns
+returns c =
+    let at-unarmed = c .before .before in
+    let at-arms = at-unarmed .before .before in
+    rw (c .with-lateral .ensures, at-unarmed .with-armed .ensures, at-unarmed .before .armed-unless .ensures, at-arms .arms-nav .ensures)
+    (nav-cleared _ _ (shows (at-arms .before .lateral-number .ensures) (c .before .match .keys1)))
+
+returns-2 : tie.Need-returns-2
+returns-2 c =
+    let at-arms = c .before .before .before in
+    rw (c .before .with-armed .ensures, c .before .before .armed-unless .ensures, at-arms .arms-nav .ensures)
+    (nav-cleared _ _ (shows-not (at-arms .before .lateral-number .ensures) (c .match .rest .1)))
+
 pub clear-nav-spec : {M : Type 1} → statement M
 clear-nav-spec =
-    tie.close
-    (tie.spec
-    (λ c κs. search needs)
-    (λ c κs. search needs)
-    (λ c κs. search needs)
-    (λ c κs. search needs)
-    (λ c. rw (c .with-lateral .ensures, c .before .before .with-armed .ensures, c .before .before .before .nav-not-armed .ensures) (nav-cleared (c .before .before .before .before .before .args .m) true (eq-eqb _ _ (sym (c .before .before .before .before .lateral-number .ensures) ∙ c .before .match .keys1))))
-    (λ c. rw (c .before .with-armed .ensures, c .before .before .nav-not-armed .ensures) (nav-cleared (c .before .before .before .before .args .m) false (ne-eqb _ _ (λ e. c .match .rest .1 (c .before .before .before .lateral-number .ensures ∙ e))))))
+    tie.close (tie.spec (λ c κs. search needs) (λ c κs. search needs) (λ c κs. search needs) (λ c κs. search needs) (λ c κs. search needs) returns returns-2)

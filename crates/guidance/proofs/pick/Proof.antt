@@ -1,4 +1,4 @@
--- `guidance::pick` meets its contract. Assumes nothing.
+-- `guidance::pick` meets its contract: refusal and laws are those of the display. Assumes nothing.
 use borrow.Author.Needs.{needs}
 use Rattle.guidance.specs.Picker.{pickedOf}
 use Rattle.guidance.proofs.pick.Statement.{statement}
@@ -6,8 +6,4 @@ use Rattle.guidance.proofs.pick.Tie as tie
 
 pub pick-spec : {M : Type 1} → statement M
 unfolding pickedOf
-pick-spec =
-    tie.close
-    (tie.spec
-    (λ c κs. search needs)
-    (λ c. rw (c .before .display .ensures)))
+pick-spec = tie.close (tie.spec (λ c κs. search needs) (λ c. cc))

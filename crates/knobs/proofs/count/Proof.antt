@@ -1,4 +1,4 @@
--- `knobs::count` meets its contract. Assumes nothing.
+-- `knobs::count` meets its contract: the count of the knob is replaced among the bench's counts. Assumes nothing.
 use Rattle.knobs.specs.Knobs.{counted}
 use borrow.Author.Needs.{needs}
 use Rattle.knobs.proofs.count.Statement.{statement}
@@ -6,8 +6,4 @@ use Rattle.knobs.proofs.count.Tie as tie
 
 pub count-spec : {M : Type 1} → statement M
 unfolding counted
-count-spec =
-    tie.close
-    (tie.spec
-    (λ c κs. search needs)
-    (λ c. rw (c .with-count .ensures)))
+count-spec = tie.close (tie.spec (λ c κs. search needs) (λ c κs. search needs) (λ c. simp (c .with-counts .ensures, c .before .with-count .ensures)))

@@ -1,28 +1,20 @@
--- `knobs::hundreds` meets its contract. Assumes nothing.
-use mathlib.Core.Path.{ap, _∙_}
-use native.Mathlib.Omega.{arith}
+-- `knobs::hundreds` meets its contract: a hundred of a rotation fits 32 bits. Assumes nothing.
+use mathlib.Core.Path.{_≡_, ap}
 use lib.IntN.{ℤ, pos, _*ℤ_}
 use mir.Syntax.{w32}
-use mir.Val.{SFits}
-use Rattle.rotation.proofs.Signed.{same32, as32, fits-as, rotation-mag, hundred-fits}
-use borrow.Author.Needs.{needs}
+use mir.Val.{SFits, toZ, ofZ}
+use Rattle.rotation.proofs.Signed.{same32, as32, fits-as, hundred-fits}
 use Rattle.knobs.proofs.hundreds.Statement.{statement}
 use Rattle.knobs.proofs.hundreds.Tie as tie
 
-abbrev r : tie.After-rotation → ℤ
-r c = c .rotation .result
+held : (z : ℤ) → SFits w32 z → toZ w32 (ofZ w32 z) *ℤ pos 100 ≡ z *ℤ pos 100
+held z h = ap (λ (x : ℤ). x *ℤ pos 100) (same32 z h)
 
-r-fits : (c : tie.After-rotation) → SFits w32 (r c)
-r-fits c = record { sfits = c .rotation .ok }
+mul-result : tie.Need-mul-result
+mul-result c = fits-as (held (c .args .amount) (c .fits .amount)) (hundred-fits (c .args .amount) (c .pre))
 
--- a hundred of a rotation fits
-product-fits : (c : tie.After-rotation) → SFits w32 (r c *ℤ pos 100)
-product-fits c = hundred-fits (r c) (rw (c .rotation .ensures) (rotation-mag (c .before .args .old) (c .before .args .new) (omega arith) (omega arith)))
+returns : tie.Need-returns
+returns c = as32 (held (c .args .amount) (c .fits .amount)) (hundred-fits (c .args .amount) (c .pre))
 
 pub hundreds-spec : {M : Type 1} → statement M
-hundreds-spec =
-    tie.close
-    (tie.spec
-    (λ c κs. search needs)
-    (λ c. fits-as (ap (λ (z : ℤ). z *ℤ pos 100) (same32 (r c) (r-fits c))) (product-fits c))
-    (λ c. as32 (ap (λ (z : ℤ). z *ℤ pos 100) (same32 (r c) (r-fits c))) (product-fits c) ∙ ap (λ (z : ℤ). z *ℤ pos 100) (c .rotation .ensures)))
+hundreds-spec = tie.close (tie.spec mul-result returns)

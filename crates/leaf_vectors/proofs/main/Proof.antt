@@ -62,21 +62,5 @@ pub main-spec : {M : Type 1} → statement M
 main-spec =
     tie.close
     (tie.spec
-    Inv-loop
-    μ-loop
-    Inv-loop2
-    μ-loop2
-    loop-holds
-    mul-print-rounded
-    array-read-print-rounded
-    print-rounded-requires
-    add-i
-    loop-less
-    loop-again
-    loop2-holds
-    print-rotations-requires
-    add-old
-    loop2-less
-    loop2-again
-    returns
-    returns-2)
+    Inv-loop μ-loop Inv-loop2 μ-loop2 loop-holds mul-print-rounded array-read-print-rounded print-rounded-requires add-i loop-less loop-again
+    loop2-holds print-rotations-requires add-old loop2-less loop2-again returns returns-2)

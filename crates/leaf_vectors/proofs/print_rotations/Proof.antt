@@ -44,15 +44,5 @@ pub print-rotations-spec : {M : Type 1} → statement M
 print-rotations-spec =
     tie.close
     (tie.spec
-    Inv-loop
-    μ-loop
-    rotation-requires
-    print-signed-requires
-    loop-holds
-    print-next-rotation-requires
-    add-new
-    loop-less
-    loop-again
-    slice-aggregate-write-all
-    write-all-requires
-    returns)
+    Inv-loop μ-loop rotation-requires print-signed-requires loop-holds print-next-rotation-requires add-new loop-less loop-again
+    slice-aggregate-write-all write-all-requires returns)

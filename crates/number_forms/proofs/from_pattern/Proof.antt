@@ -1,8 +1,8 @@
 -- `number_forms::from_pattern` meets its contract: a pattern above that of infinity, the sign aside, is a NaN's. Assumes nothing.
 use borrow.Author.Needs.{needs}
 use borrow.Author.Tests.{lt-ltb, le-ltb}
-use mathlib.Core.Path.{_≡_, refl, sym, _∙_, subst}
-use mathlib.Core.Bool.{Bool, true, false, not, false≢true}
+use mathlib.Core.Path.{_≡_, refl, sym, _∙_}
+use mathlib.Core.Bool.{true, false, false≢true}
 use lib.Dec.{T}
 use lib.Ieee.{Float, nan, inf, fin, binary64, div, ofBits, isNan}
 use lib.Ieee.Bits.{nanBits-is, nanBits-above}
@@ -26,7 +26,7 @@ returns c =
     no-number ∙ is-nan (ofBits binary64 b) (sym (nanBits-is binary64 b) ∙ nanBits-above binary64 b ∙ lt-ltb _ _ (c .if1 .taken))
 
 float-from-bits-result : tie.Need-float-from-bits-result
-float-from-bits-result c = subst (λ (t : Bool). T (not t)) (sym (nanBits-above binary64 (c .before .args .bits) ∙ le-ltb _ _ (c .if1 .left))) tt
+float-from-bits-result c = rw (nanBits-above binary64 (c .before .args .bits), le-ltb _ _ (c .if1 .left)) tt
 
 pub from-pattern-spec : {M : Type 1} → statement M
 from-pattern-spec = tie.close (tie.spec returns float-from-bits-result (λ c. search needs))

@@ -1,65 +1,61 @@
--- `numerals::digits_from` meets its contract. The loop's invariant: what is read on from v over the rest is what is read from `start` over all. Assumes nothing.
-use borrow.Author.Needs.{needs}
-use mathlib.Core.Path.{_≡_, refl, _∙_}
-use Prim.Native.Nat.{_≤_, _-_}
+-- `numerals::digits_from` meets its contract. The loop's invariant: what is read on from v over the rest is what is read from `start` over all;
+-- a turn reads the first digit of the rest, as `readOn` does. Assumes nothing.
+use mathlib.Core.Path.{_≡_, refl, sym, _∙_}
+use mathlib.Core.List.{List}
+use Prim.Native.Nat.{ℕ, _+_, _≤_, _<_, _-_}
+use native.Mathlib.Numerals.{add-one}
 use native.Mathlib.Omega.{arith}
 use denote.Ref.{now}
-use lib.ListN.{length, drop}
-use Rattle.numerals.specs.Tables.{readOn}
-use Rattle.numerals.proofs.Reading.{at-end, at-wrong, at-fits, at-next}
+use lib.ListN.{length, drop, getD, drop-of-length-le}
+use lib.Seq.{drop-cons}
+use borrow.Author.Needs.{needs}
+use Rattle.numerals.specs.Private.{ifDigits, step, readOn}
+use Rattle.numerals.specs.declared.Digits.the-variants.{Are, Wrong}
 use Rattle.numerals.proofs.digits_from.Statement.{statement}
 use Rattle.numerals.proofs.digits_from.Tie as tie
-use Rattle.numerals.proofs.digits_from.Reads as reads
-use Rattle.numerals.proofs.digits_from.Lts as lts
-use Rattle.numerals.proofs.one_more.Reads as one-more-reads
 
 abbrev Inv-loop : tie.InvT-loop
-Inv-loop base start w most v₀ i₀ v i = (i ≤ length w) × ((v ≤ most) × (readOn base most v (drop i w) ≡ readOn base most start w))
+Inv-loop base start w most v₀ i₀ v i = (i ≤ length w) × (readOn base most v (drop i w) ≡ readOn base most start w)
 
 abbrev μ-loop : tie.MeasureT-loop
 μ-loop base start w most v₀ i₀ v i = length w - i
 
-loop-holds : tie.Need-loop-holds Inv-loop μ-loop
-loop-holds c = (omega arith, (omega arith, refl))
+-- reading on from place i: the digit there, then the rest
+at-digit : (base most v : ℕ) (w : List ℕ) (i : ℕ) → i < length w →
+    readOn base most v (drop i w) ≡ ifDigits (step base most v (getD w i 0)) (λ n. readOn base most n (drop (i + 1) w)) Wrong
+unfolding readOn
+at-digit base most v w i l = rw (add-one, drop-cons w i 0)
+
+at-end : (base most v : ℕ) (w : List ℕ) (i : ℕ) → length w ≤ i → readOn base most v (drop i w) ≡ Are v
+unfolding readOn
+at-end base most v w i l = rw (drop-of-length-le w {i = i} l)
+
+-- what the turn reads on
+turned : (c : tie.After-one-more Inv-loop μ-loop) → let l = c .before .before .before in let a = l .before .before .args in
+    ifDigits (c .one-more .result) (λ n. readOn (a .base) (a .most) n (drop (l .loop .i + 1) (now (a .w)))) Wrong
+    ≡ readOn (a .base) (a .most) (a .start) (now (a .w))
+turned c =
+    let l = c .before .before .before in
+    let a = l .before .before .args in
+    rw (c .one-more .ensures) (sym (at-digit (a .base) (a .most) (l .loop .v) (now (a .w)) (l .loop .i) (c .before .before .loop-test .taken)) ∙ l .loop .inv .1)
 
 returns : tie.Need-returns Inv-loop μ-loop
-returns c =
-    let d = c .before .before in
-    let l = d .before .before .before in
-    let a = l .before .before .args in
-    at-wrong (a .base) (a .most) (l .loop .v) (now (a .w)) (l .loop .i) (l .before .before .pre .0) (d .before .before .loop-test .taken) (d .one-more .result) (d .one-more .ensures) (c .enum-told .given .1)
-    ∙ l .loop .inv .1 .1
+returns c = rw (c .enum-told .given .1) at (turned (c .before .before))
 
 loop-again : tie.Need-loop-again Inv-loop μ-loop
-loop-again c =
-    let d = c .before .before .before in
-    let l = d .before .before .before in
-    let a = l .before .before .args in
-    let n = c .before .next .given .0 .0 in
-    let e = c .before .next .given .1 in
-    let f = at-fits (a .base) (a .most) (l .loop .v) (now (a .w)) (l .loop .i) (l .before .before .pre .0) (d .before .before .loop-test .taken) (d .one-more .result) (d .one-more .ensures) n e in
-    let g = at-next (a .base) (a .most) (l .loop .v) (now (a .w)) (l .loop .i) (l .before .before .pre .0) (d .before .before .loop-test .taken) (d .one-more .result) (d .one-more .ensures) n e in
-    (omega arith, (f, g ∙ l .loop .inv .1 .1))
+loop-again c = (omega arith, rw (c .before .next .given .1) at (turned (c .before .before .before)))
 
 returns-2 : tie.Need-returns-2 Inv-loop μ-loop
 returns-2 c =
     let l = c .before in
     let a = l .before .before .args in
-    at-end (a .base) (a .most) (l .loop .v) (now (a .w)) (l .loop .i) (c .loop-test .left) (l .loop .inv .1 .0) ∙ l .loop .inv .1 .1
+    sym (at-end (a .base) (a .most) (l .loop .v) (now (a .w)) (l .loop .i) (c .loop-test .left)) ∙ l .loop .inv .1
 
 pub digits-from-spec : {M : Type 1} → statement M
 digits-from-spec =
     tie.close
     (tie.spec
-    Inv-loop
-    μ-loop
-    loop-holds
-    (λ c. search needs)
-    (λ c κs. search needs)
-    (λ c. search needs)
-    (λ c. search needs)
-    returns
-    (λ c. search needs)
-    (λ c. search needs)
-    loop-again
+    Inv-loop μ-loop
+    (λ c. (omega arith, refl))
+    (λ c. search needs) (λ c κs. search needs) (λ c. search needs) (λ c. search needs) returns (λ c. search needs) (λ c. search needs) loop-again
     returns-2)

@@ -1,36 +1,24 @@
--- `numerals::minus` meets its contract. Assumes nothing.
-use borrow.Author.Needs.{needs}
-use native.Mathlib.Omega.{arith}
-use mathlib.Core.Path.{_≡_, sym, ap, _∙_, subst}
-use Prim.Native.Nat.{ℕ, zero, suc, _≤_}
-use lib.IntN.{ℤ, pos, negℤ, _-ℤ_, +ℤ-idl}
+-- `numerals::minus` meets its contract: 64 bits hold the negation of every number of 32, and 32 bits that of one up to 2147483648. Assumes nothing.
+use mathlib.Core.Path.{_≡_}
 use mathlib.Core.Bool.{true}
-use Rattle.numerals.proofs.Signs.{sign-fits}
+use lib.IntN.{pos, negℤ, _-ℤ_}
 use mir.Syntax.{w32, w64}
-use mir.Val.{SFits, toZ, ofZ}
-use mir.ValLaws.{toZ-ofZ, toZ-pos}
+use mir.Val.{toZ, ofZ}
+use mir.ValLaws.{toZ-ofZ}
+use native.Mathlib.Omega.{arith}
+use borrow.Author.Needs.{needs}
+use Rattle.rounding.proofs.Signs.{neg-fits, neg-stored}
+use Rattle.numerals.proofs.Signs.{sign-fits}
 use Rattle.numerals.proofs.minus.Statement.{statement}
 use Rattle.numerals.proofs.minus.Tie as tie
 
-fits64 : (n : ℕ) → n ≤ 2147483648 → SFits w64 (negℤ (pos n))
-fits64 zero h = record { sfits = omega arith }
-fits64 (suc n) h = record { sfits = omega arith }
-
-module _ (n : ℕ) (h : n ≤ 2147483648) where
-  less : pos 0 -ℤ toZ w64 n ≡ negℤ (pos n)
-  less = ap (λ (z : ℤ). pos 0 -ℤ z) (toZ-pos w64 n (omega arith)) ∙ +ℤ-idl (negℤ (pos n))
-
-  held : toZ w64 (ofZ w64 (pos 0 -ℤ toZ w64 n)) ≡ negℤ (pos n)
-  held = ap (λ (z : ℤ). toZ w64 (ofZ w64 z)) less ∙ toZ-ofZ w64 (negℤ (pos n)) (fits64 n h)
-
-sub-result : tie.Need-sub-result
-sub-result c = subst (SFits w64) (sym (less (c .args .n) (c .pre))) (fits64 (c .args .n) (c .pre))
-
-cast-result-2 : tie.Need-cast-result-2
-cast-result-2 c = subst (SFits w32) (sym (held (c .args .n) (c .pre))) (sign-fits true (c .args .n) (c .pre))
-
-returns : tie.Need-returns
-returns c = ap (λ (z : ℤ). toZ w32 (ofZ w32 z)) (held (c .args .n) (c .pre)) ∙ toZ-ofZ w32 (negℤ (pos (c .args .n))) (sign-fits true (c .args .n) (c .pre))
+as64 : (c : tie.Start) → toZ w64 (ofZ w64 (pos 0 -ℤ toZ w64 (c .args .n))) ≡ negℤ (pos (c .args .n))
+as64 c = neg-stored (c .args .n) (omega arith)
 
 pub minus-spec : {M : Type 1} → statement M
-minus-spec = tie.close (tie.spec (λ c. search needs) sub-result cast-result-2 returns)
+minus-spec =
+    tie.close (tie.spec
+    (λ c. search needs)
+    (λ c. neg-fits (c .args .n) (omega arith))
+    (λ c. rw (as64 c) (sign-fits true (c .args .n) (c .pre)))
+    (λ c. rw (as64 c) (toZ-ofZ w32 (negℤ (pos (c .args .n))) (sign-fits true (c .args .n) (c .pre)))))

@@ -1,32 +1,34 @@
--- `numerals::negative` meets its contract. Assumes nothing.
+-- `numerals::negative` meets its contract: a number of at most 2147483648 has its negation in 32 bits (`signed-is`). Assumes nothing.
+use mathlib.Core.Path.{sym, ap, _∙_}
+use Prim.Native.Nat.{_≤_}
 use mathlib.Core.Bool.{true}
 use denote.Ref.{now}
-use Rattle.numerals.proofs.Signs.{signed-small, signed-is, signed-no, held}
+use mir.Syntax.{w32}
+use mir.ValLaws.{toZ-ofZ}
 use borrow.Author.Needs.{needs}
+use Rattle.numerals.specs.declared.answers.Signed.the-variants.{Is}
+use Rattle.numerals.proofs.Numerals.{number-fits}
+use Rattle.numerals.proofs.Signs.{sign-fits, signed-is}
 use Rattle.numerals.proofs.negative.Statement.{statement}
 use Rattle.numerals.proofs.negative.Tie as tie
 
-minus-requires : tie.Need-minus-requires
-minus-requires c κs =
-    let d = c .before .before .before .number in
-    let a = c .before .before .before .before .before .args in
-    signed-small true (now (a .w)) (d .result) (d .ensures) (c .before .found .given .0 .0) (c .before .found .given .1)
+small : (c : tie.After-found) → c .found .given .0 .0 ≤ 2147483648
+small c =
+    let at-number = c .before .before in
+    number-fits 2147483648 (now (at-number .before .before .args .w)) (c .found .given .0 .0) (sym (at-number .number .ensures) ∙ c .found .given .1)
 
 returns : tie.Need-returns
 returns c =
-    let d = c .before .before .before .before .number in
-    let a = c .before .before .before .before .before .before .args in
-    let n = c .before .before .found .given .0 .0 in
-    let f = c .before .before .found .given .1 in
-    signed-is true (now (a .w)) (d .result) (d .ensures) n f _ (held true n (c .minus .result) (signed-small true (now (a .w)) (d .result) (d .ensures) n f) (c .minus .ensures))
+    let at-found = c .before .before in
+    rw (signed-is true _, ← at-found .before .before .number .ensures, at-found .found .given .1, c .minus .ensures)
+    (ap Is (toZ-ofZ w32 _ (sign-fits true (at-found .found .given .0 .0) (small at-found))))
 
 returns-2 : tie.Need-returns-2
-returns-2 c =
-    let d = c .before .before .number in
-    let a = c .before .before .before .before .args in
-    signed-no true (now (a .w)) (d .result) (d .ensures) (c .enum-told .given .1)
+returns-2 c = rw (signed-is true _, ← c .before .before .number .ensures, c .enum-told .given .1)
 
 pub negative-spec : {M : Type 1} → statement M
 negative-spec =
-    tie.close
-    (tie.spec (λ c κs. search needs) (λ c. search needs) minus-requires (λ c. search needs) returns returns-2)
+    tie.close (tie.spec
+    (λ c κs. search needs) (λ c. search needs)
+    (λ c κs. small (c .before))
+    (λ c. search needs) returns returns-2)

@@ -7,7 +7,7 @@ use mir.Syntax.{w32, w64}
 use mir.Val.{SFits, toZ, ofZ}
 use mir.ValLaws.{toZ-ofZ}
 use Rattle.rounding.specs.Whole.{isI32}
-use Rattle.rounding.specs.Signs.{i32-fits, between-fits}
+use Rattle.rounding.proofs.Signs.{i32-fits, between-fits}
 use Rattle.rounding.proofs.in_answer.Statement.{statement}
 use Rattle.rounding.proofs.in_answer.Tie as tie
 

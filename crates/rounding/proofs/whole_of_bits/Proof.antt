@@ -1,4 +1,5 @@
--- `rounding::whole_of_bits` meets its contract: each return is a case of the pattern's exponent field (`proofs/Floats.antt`). Assumes nothing.
+-- `rounding::whole_of_bits` meets its contract: each return is a case of the pattern's exponent field, and what is answered there is the
+-- whole value of every float with such a field (`proofs/Floats.antt`). Assumes nothing.
 use borrow.Author.Needs.{needs}
 use mathlib.Core.Path.{_∙_, ap}
 use Prim.Native.Nat.{ℕ}
@@ -9,39 +10,32 @@ use Rattle.rounding.proofs.Floats.{sign, bits-ones, bits-large, bits-sm
 use Rattle.rounding.proofs.whole_of_bits.Statement.{statement}
 use Rattle.rounding.proofs.whole_of_bits.Tie as tie
 
+-- infinity, or not a number
 returns : tie.Need-returns
 returns c = bits-ones (c .before .args .bits) (c .if1 .taken)
 
+-- 2 ^ 52 or more
 returns-2 : tie.Need-returns-2
 returns-2 c = bits-large (c .before .before .args .bits) (c .before .if1 .left) (c .if2 .taken)
 
+-- below a half
 returns-3 : tie.Need-returns-3
 returns-3 c = bits-small (c .before .before .before .args .bits) (c .if3 .taken)
 
-add-digits : tie.Need-add-digits
-add-digits c = search needs
-
-sub-nearest : tie.Need-sub-nearest
-sub-nearest c = search needs
-
-nearest-requires : tie.Need-nearest-requires
-nearest-requires c κs = search needs
-
 signed-requires : tie.Need-signed-requires
-signed-requires c κs = rw (c .nearest .ensures) (bits-le (c .before .before .before .before .args .bits))
+signed-requires c κs = let at-if2 = c .before .before in rw (c .nearest .ensures) (bits-le (at-if2 .before .before .args .bits))
 
-in-answer-requires : tie.Need-in-answer-requires
-in-answer-requires c κs = search needs
-
+-- from a half on: the digits, rounded, with their sign
 returns-4 : tie.Need-returns-4
 returns-4 c =
-    let d = c .before .before .before in
-    let b = d .before .before .before .args .bits in
+    let at-if3 = c .before .before .before in
+    let bits = at-if3 .before .before .before .args .bits in
+    let signed = c .before .signed in
     c .in-answer .ensures
-    ∙ ap inAnswer (toZ-ofZ w64 (c .before .signed .result) (record { sfits = c .before .signed .ok }) ∙ c .before .signed .ensures)
-    ∙ ap (λ (q : ℕ). inAnswer (signedOf (sign b) q)) (c .before .before .nearest .ensures)
-    ∙ bits-middle b (d .if3 .left) (d .before .if2 .left)
+    ∙ ap inAnswer (toZ-ofZ w64 (signed .result) (record { sfits = signed .ok }) ∙ signed .ensures)
+    ∙ ap (λ (q : ℕ). inAnswer (signedOf (sign bits) q)) (c .before .before .nearest .ensures)
+    ∙ bits-middle bits (at-if3 .if3 .left) (at-if3 .before .if2 .left)
 
 pub whole-of-bits-spec : {M : Type 1} → statement M
 whole-of-bits-spec =
-    tie.close (tie.spec returns returns-2 returns-3 add-digits sub-nearest nearest-requires signed-requires in-answer-requires returns-4)
+    tie.close (tie.spec returns returns-2 returns-3 (λ c. search needs) (λ c. search needs) (λ c κs. search needs) signed-requires (λ c κs. search needs) returns-4)

@@ -9,14 +9,13 @@ use Rattle.rounding.proofs.whole_value.Tie as tie
 float-to-bits-whole-of-bits : tie.Need-float-to-bits-whole-of-bits
 float-to-bits-whole-of-bits c = no-nan (c .before .args .x) (c .if1 .left)
 
-whole-of-bits-requires : tie.Need-whole-of-bits-requires
-whole-of-bits-requires c κs = search needs
-
 returns : tie.Need-returns
 returns c = nan-whole (c .before .args .x) (c .if1 .taken)
 
 returns-2 : tie.Need-returns-2
-returns-2 c = c .whole-of-bits .ensures ∙ float-whole (c .before .before .args .x) (subst T (sym (c .before .before .good .0 .1)) tt)
+returns-2 c =
+    let at-start = c .before .before in
+    c .whole-of-bits .ensures ∙ float-whole (at-start .args .x) (subst T (sym (at-start .good .0 .1)) tt)
 
 pub whole-value-spec : {M : Type 1} → statement M
-whole-value-spec = tie.close (tie.spec float-to-bits-whole-of-bits whole-of-bits-requires returns returns-2)
+whole-value-spec = tie.close (tie.spec float-to-bits-whole-of-bits (λ c κs. search needs) returns returns-2)

@@ -1,22 +1,17 @@
--- `scripts::damage_by` meets its contract. Assumes nothing.
+-- `scripts::damage_by` meets its contract: each arm is the case of `damageBy` that its number picks. Assumes nothing.
 use borrow.Author.Tests.{lt-ltb, le-ltb, ne-eqb}
-use Rattle.scripts.specs.Commands.{damageBy}
 use borrow.Author.Needs.{needs}
+use Rattle.scripts.specs.Commands.{damageBy}
 use Rattle.scripts.proofs.damage_by.Statement.{statement}
 use Rattle.scripts.proofs.damage_by.Tie as tie
 
 pub damage-by-spec : {M : Type 1} → statement M
 unfolding damageBy
 damage-by-spec =
-    tie.close
-    (tie.spec
-    (λ c. search needs)
-    (λ c κs. search needs)
+    tie.close (tie.spec
+    (λ c. search needs) (λ c κs. search needs)
     (λ c. rw (lt-ltb _ _ (c .before .if1 .taken)) (c .damage-box .ensures))
-    (λ c κs. search needs)
-    (λ c κs. search needs)
-    (λ c κs. search needs)
-    (λ c κs. search needs)
-    (λ c. rw (c .before .before .match .keys1, c .counted .ensures, c .before .damage-reading .ensures))
-    (λ c. rw (c .before .before .match .keys2, c .counted2 .ensures, c .before .damage-pf .ensures))
-    (λ c. simp (le-ltb _ _ (c .before .if1 .left), ne-eqb _ _ (c .match .rest .1), ne-eqb _ _ (c .match .rest .0 .1))))
+    (λ c κs. search needs) (λ c κs. search needs) (λ c κs. search needs) (λ c κs. search needs)
+    (λ c. rw (c .before .before .match .keys1, c .with-words .ensures, c .before .damage-reading .ensures))
+    (λ c. rw (c .before .before .match .keys2, c .with-words2 .ensures, c .before .damage-pf .ensures))
+    (λ c. let r = c .match .rest in simp (le-ltb _ _ (c .before .if1 .left), ne-eqb _ _ (r .1), ne-eqb _ _ (r .0 .1))))

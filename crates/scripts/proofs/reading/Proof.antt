@@ -1,14 +1,11 @@
--- `scripts::reading` meets its contract. Assumes nothing.
+-- `scripts::reading` meets its contract: the arms are those of `ifReading`. Assumes nothing.
 use borrow.Author.Needs.{needs}
 use Rattle.scripts.proofs.reading.Statement.{statement}
 use Rattle.scripts.proofs.reading.Tie as tie
 
 pub reading-spec : {M : Type 1} → statement M
 reading-spec =
-    tie.close
-    (tie.spec
-    (λ c κs. search needs)
-    (λ c. search needs)
-    (λ c. search needs)
+    tie.close (tie.spec
+    (λ c κs. search needs) (λ c. search needs) (λ c. search needs)
     (λ c. rw (← c .before .before .before .reading-at .ensures, c .before .named .given .1))
     (λ c. rw (← c .before .before .before .reading-at .ensures, c .before .named2 .given .1)))

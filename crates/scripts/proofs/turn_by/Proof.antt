@@ -1,22 +1,24 @@
--- `scripts::turn_by` meets its contract. Assumes nothing.
+-- `scripts::turn_by` meets its contract: the arms are those of `ifNumber`, and a number of at most 255 fits a byte (`number-fits`). Assumes nothing.
 use mathlib.Core.Path.{sym, _∙_}
 use native.Mathlib.Omega.{arith}
 use denote.Ref.{now}
-use Rattle.numerals.proofs.Numerals.{number-tells}
-use Rattle.scripts.specs.Commands.{turnBy}
+use Rattle.words.specs.Words.{wordOf}
+use Rattle.numerals.proofs.Numerals.{number-fits}
 use borrow.Author.Needs.{needs}
+use Rattle.scripts.specs.Commands.{turnBy}
 use Rattle.scripts.proofs.turn_by.Statement.{statement}
 use Rattle.scripts.proofs.turn_by.Tie as tie
+
+cast-small : tie.Need-cast-small
+cast-small c =
+    let d = c .before .before .before in
+    let count = c .before .count .given in
+    omega (arith, number-fits 255 (wordOf (now (d .before .before .args .text)) 2) (count .0 .0) (sym (d .number-at .ensures) ∙ count .1))
 
 pub turn-by-spec : {M : Type 1} → statement M
 unfolding turnBy
 turn-by-spec =
-    tie.close
-    (tie.spec
-    (λ c κs. search needs)
-    (λ c κs. search needs)
-    (λ c. search needs)
-    (λ c. omega (arith, number-tells 255 (now (c .before .before .before .before .word .result)) (c .before .count .given .0 .0) (sym (c .before .before .before .number .ensures) ∙ c .before .count .given .1) .1 .1))
-    (λ c. search needs)
-    (λ c. rw (← c .before .before .before .before .word .ensures, ← c .before .before .before .number .ensures, c .before .count .given .1))
-    (λ c. rw (← c .before .before .before .word .ensures, ← c .before .before .number .ensures, c .enum-told .given .1)))
+    tie.close (tie.spec
+    (λ c κs. search needs) (λ c. search needs) cast-small (λ c. search needs)
+    (λ c. rw (← c .before .before .before .number-at .ensures, c .before .count .given .1))
+    (λ c. rw (← c .before .before .number-at .ensures, c .enum-told .given .1)))

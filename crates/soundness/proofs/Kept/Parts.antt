@@ -1,6 +1,8 @@
 -- Soundness by its parts: what a sound bench says of PF, of each channel and of each reading, and the way back. Assumes nothing.
 use mathlib.Core.Path.{_≡_, refl}
 use mathlib.Core.Bool.{Bool, true, false, _&&_, cond, and-eq-true-iff}
+use Prim.Native.Nat.{ℕ, zero, suc, _≤_}
+use native.Mathlib.Omega.{arith}
 use lib.Dec.{leb}
 use Rattle.modes.specs.Sets.{coherentSet}
 use Rattle.bench.specs.declared.References.{References}
@@ -8,9 +10,7 @@ use Rattle.bench.specs.declared.Channel.{Channel}
 use Rattle.bench.specs.declared.Readings.{Readings}
 use Rattle.bench.specs.declared.Reading.{Reading}
 use Rattle.bench.specs.declared.Bench.{Bench}
-use Rattle.bench.specs.Ranges.{within, headings, altitudes, verticalSpeeds, speeds, rolls, pitches}
-use Rattle.bench.specs.Readings.{accepted}
-use Rattle.bench.specs.Sound.{referencesSound, channelSound, readingsSound, sound}
+use Rattle.bench.specs.Sound.{inRange, referencesSound, channelSound, valid, readingsSound, sound}
 
 -- what holds of x if t is true, and of y if it is false, holds of the one that t picks
 pub by-cond : {A : Type 0} (P : A → Type 0) (t : Bool) (x y : A) → (t ≡ true → P x) → (t ≡ false → P y) → P (cond t x y)
@@ -32,13 +32,7 @@ and-both a b h k = and-eq-true-iff a b .1 (h, k)
 
 -- every reference is within its range
 pub record ReferencesIn (r : References) : Type 0 where
-  pub heading : within headings (r .heading) ≡ true
-  pub preselected : within altitudes (r .preselected) ≡ true
-  pub held : within altitudes (r .held) ≡ true
-  pub «vertical_speed» : within verticalSpeeds (r .«vertical_speed») ≡ true
-  pub ias : within speeds (r .ias) ≡ true
-  pub roll : within rolls (r .roll) ≡ true
-  pub pitch : within pitches (r .pitch) ≡ true
+  pub each : (n : ℕ) → n ≤ 6 → inRange n r ≡ true
 
 -- a coherent set, and references within their ranges
 pub record ChannelIn (c : Channel) : Type 0 where
@@ -47,12 +41,12 @@ pub record ChannelIn (c : Channel) : Type 0 where
 
 -- no reading that 5 or 6 would turn away
 pub record ReadingsIn (w : Readings) : Type 0 where
-  pub altitude : accepted (Reading.Altitude (w .altitude)) ≡ true
-  pub airspeed : accepted (Reading.Airspeed (w .airspeed)) ≡ true
-  pub «vertical_speed» : accepted (Reading.VerticalSpeed (w .«vertical_speed»)) ≡ true
-  pub roll : accepted (Reading.Roll (w .roll)) ≡ true
-  pub pitch : accepted (Reading.Pitch (w .pitch)) ≡ true
-  pub heading : accepted (Reading.Heading (w .heading)) ≡ true
+  pub altitude : valid (Reading.Altitude (w .altitude)) ≡ true
+  pub airspeed : valid (Reading.Airspeed (w .airspeed)) ≡ true
+  pub «vertical_speed» : valid (Reading.VerticalSpeed (w .«vertical_speed»)) ≡ true
+  pub roll : valid (Reading.Roll (w .roll)) ≡ true
+  pub pitch : valid (Reading.Pitch (w .pitch)) ≡ true
+  pub heading : valid (Reading.Heading (w .heading)) ≡ true
 
 -- a sound bench
 pub record SoundIn (b : Bench) : Type 0 where
@@ -65,13 +59,30 @@ pub record SoundIn (b : Bench) : Type 0 where
 
 -- ---- from a test to its parts, and back
 
+-- what holds of the seven places holds of a place
+by-place : (P : ℕ → Type 0) → P 0 → P 1 → P 2 → P 3 → P 4 → P 5 → P 6 → (n : ℕ) → n ≤ 6 → P n
+by-place P a b c d e f g zero h = a
+by-place P a b c d e f g (suc zero) h = b
+by-place P a b c d e f g (suc (suc zero)) h = c
+by-place P a b c d e f g (suc (suc (suc zero))) h = d
+by-place P a b c d e f g (suc (suc (suc (suc zero)))) h = e
+by-place P a b c d e f g (suc (suc (suc (suc (suc zero))))) h = f
+by-place P a b c d e f g (suc (suc (suc (suc (suc (suc zero)))))) h = g
+by-place P a b c d e f g (suc (suc (suc (suc (suc (suc (suc n))))))) h = absurd (omega arith)
+
 references-parts : (r : References) → referencesSound r ≡ true → ReferencesIn r
 unfolding referencesSound
-references-parts r h = search (and-left, and-right) depth 8
+references-parts r h = record {
+  each = by-place (λ (n : ℕ). inRange n r ≡ true) (search (and-left, and-right) depth 8) (search (and-left, and-right) depth 8)
+      (search (and-left, and-right) depth 8) (search (and-left, and-right) depth 8) (search (and-left, and-right) depth 8)
+      (search (and-left, and-right) depth 8) (search (and-left, and-right) depth 8);
+}
 
 references-whole : (r : References) → ReferencesIn r → referencesSound r ≡ true
 unfolding referencesSound
-references-whole r h = cc
+references-whole r h =
+    let at : (n : ℕ) → n ≤ 6 → inRange n r ≡ true = h .each in
+    cc (at 0 (omega arith), at 1 (omega arith), at 2 (omega arith), at 3 (omega arith), at 4 (omega arith), at 5 (omega arith), at 6 (omega arith))
 
 channel-parts : (c : Channel) → channelSound c ≡ true → ChannelIn c
 unfolding channelSound

@@ -49,17 +49,5 @@ pub run-list-spec : {M : Type 1} → statement M
 run-list-spec =
     tie.close
     (tie.spec
-    Inv-loop
-    μ-loop
-    power-on-requires
-    run-on-requires
-    first-requires
-    loop-holds
-    kind-requires
-    step-requires
-    shuffled-requires
-    sub-left
-    loop-less
-    loop-again
-    fold-bench-requires
-    returns)
+    Inv-loop μ-loop power-on-requires run-on-requires first-requires loop-holds kind-requires step-requires shuffled-requires sub-left loop-less
+    loop-again fold-bench-requires returns)

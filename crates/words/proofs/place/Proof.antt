@@ -1,4 +1,4 @@
--- `words::place` meets its contract: each turn passes a byte. Assumes nothing.
+-- `words::place` meets its contract: a turn passes a byte that is not the one asked for, and the loop stops where the run of such bytes ends (`proofs/Runs.antt`). Assumes nothing.
 use mathlib.Core.Path.{ap}
 use mathlib.Core.Bool.{not}
 use lib.Dec.{eqb}
@@ -16,26 +16,19 @@ Inv-loop text byte at₀ at = Passed (λ b. not (eqb b byte)) text at
 abbrev μ-loop : tie.MeasureT-loop
 μ-loop text byte at₀ at = length text - at
 
-loop-holds : tie.Need-loop-holds Inv-loop μ-loop
-loop-holds c = none
-
-shared-slice-read-if1 : tie.Need-shared-slice-read-if1 Inv-loop μ-loop
-shared-slice-read-if1 c = search needs
-
 returns : tie.Need-returns Inv-loop μ-loop
-returns c = stopped (c .before .before .before .loop .inv) (c .before .before .loop-test .taken) (ap not (eq-eqb _ _ (c .if1 .taken)))
-
-add-at : tie.Need-add-at Inv-loop μ-loop
-add-at c = search needs
-
-loop-less : tie.Need-loop-less Inv-loop μ-loop
-loop-less c = search needs
+returns c = let in-loop = c .before .before in stopped (in-loop .before .loop .inv) (in-loop .loop-test .taken) (ap not (eq-eqb _ _ (c .if1 .taken)))
 
 loop-again : tie.Need-loop-again Inv-loop μ-loop
-loop-again c = more (c .before .before .before .loop .inv) (c .before .before .loop-test .taken) (ap not (ne-eqb _ _ (c .if1 .left)))
+loop-again c = let in-loop = c .before .before in more (in-loop .before .loop .inv) (in-loop .loop-test .taken) (ap not (ne-eqb _ _ (c .if1 .left)))
 
 returns-2 : tie.Need-returns-2 Inv-loop μ-loop
 returns-2 c = ended (c .before .loop .inv) (c .loop-test .left)
 
 pub place-spec : {M : Type 1} → statement M
-place-spec = tie.close (tie.spec Inv-loop μ-loop loop-holds shared-slice-read-if1 returns add-at loop-less loop-again returns-2)
+place-spec =
+    tie.close
+    (tie.spec
+    Inv-loop μ-loop
+    (λ c. none)
+    (λ c. search needs) returns (λ c. search needs) (λ c. search needs) loop-again returns-2)

@@ -1,4 +1,4 @@
--- `words::spaces` meets its contract: each turn passes a byte. Assumes nothing.
+-- `words::spaces` meets its contract: a turn passes a space, and the loop stops where the run of such bytes ends (`proofs/Runs.antt`). Assumes nothing.
 use lib.Dec.{eqb}
 use Prim.Native.Nat.{_-_}
 use lib.ListN.{length}
@@ -14,26 +14,19 @@ Inv-loop text count₀ count = Passed (λ b. eqb b 32) text count
 abbrev μ-loop : tie.MeasureT-loop
 μ-loop text count₀ count = length text - count
 
-loop-holds : tie.Need-loop-holds Inv-loop μ-loop
-loop-holds c = none
-
-shared-slice-read-if1 : tie.Need-shared-slice-read-if1 Inv-loop μ-loop
-shared-slice-read-if1 c = search needs
-
 returns : tie.Need-returns Inv-loop μ-loop
-returns c = stopped (c .before .before .before .loop .inv) (c .before .before .loop-test .taken) (ne-eqb _ _ (c .if1 .taken))
-
-add-count : tie.Need-add-count Inv-loop μ-loop
-add-count c = search needs
-
-loop-less : tie.Need-loop-less Inv-loop μ-loop
-loop-less c = search needs
+returns c = let in-loop = c .before .before in stopped (in-loop .before .loop .inv) (in-loop .loop-test .taken) (ne-eqb _ _ (c .if1 .taken))
 
 loop-again : tie.Need-loop-again Inv-loop μ-loop
-loop-again c = more (c .before .before .before .loop .inv) (c .before .before .loop-test .taken) (eq-eqb _ _ (c .if1 .left))
+loop-again c = let in-loop = c .before .before in more (in-loop .before .loop .inv) (in-loop .loop-test .taken) (eq-eqb _ _ (c .if1 .left))
 
 returns-2 : tie.Need-returns-2 Inv-loop μ-loop
 returns-2 c = ended (c .before .loop .inv) (c .loop-test .left)
 
 pub spaces-spec : {M : Type 1} → statement M
-spaces-spec = tie.close (tie.spec Inv-loop μ-loop loop-holds shared-slice-read-if1 returns add-count loop-less loop-again returns-2)
+spaces-spec =
+    tie.close
+    (tie.spec
+    Inv-loop μ-loop
+    (λ c. none)
+    (λ c. search needs) returns (λ c. search needs) (λ c. search needs) loop-again returns-2)

@@ -1,9 +1,12 @@
--- `console::damage::damage_pf` meets its contract. Assumes nothing.
-use mathlib.Core.Path.{refl}
+-- `console::damage::damage_pf` meets its contract: the shared part is replaced by one with that PF. Assumes nothing.
 use Rattle.console.specs.Damage.{pfDamaged}
+use borrow.Author.Needs.{needs}
 use Rattle.console.proofs.damage.damage_pf.Statement.{statement}
 use Rattle.console.proofs.damage.damage_pf.Tie as tie
 
-pub damage-pf-spec : {M : Type 1} → statement M
+returns : tie.Need-returns
 unfolding pfDamaged
-damage-pf-spec = tie.close (tie.spec (λ c. refl))
+returns c = cc
+
+pub damage-pf-spec : {M : Type 1} → statement M
+damage-pf-spec = tie.close (tie.spec (λ c κs. search needs) (λ c κs. search needs) returns)

@@ -1,9 +1,12 @@
--- `console::damage::damage_reading` meets its contract. Assumes nothing.
-use borrow.Author.Needs.{needs}
+-- `console::damage::damage_reading` meets its contract: the readings are replaced by ones that have it. Assumes nothing.
 use Rattle.calls.specs.Calls.{received}
+use borrow.Author.Needs.{needs}
 use Rattle.console.proofs.damage.damage_reading.Statement.{statement}
 use Rattle.console.proofs.damage.damage_reading.Tie as tie
 
-pub damage-reading-spec : {M : Type 1} → statement M
+returns : tie.Need-returns
 unfolding received
-damage-reading-spec = tie.close (tie.spec (λ c κs. search needs) (λ c. rw (c .with-reading .ensures)))
+returns c = cc
+
+pub damage-reading-spec : {M : Type 1} → statement M
+damage-reading-spec = tie.close (tie.spec (λ c κs. search needs) (λ c κs. search needs) returns)

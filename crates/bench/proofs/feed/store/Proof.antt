@@ -1,0 +1,17 @@
+-- `bench::feed::store` meets its contract: the field of the kind that the arm matched is replaced. Assumes nothing.
+use Rattle.bench.specs.Readings.{stored}
+use borrow.Author.Needs.{needs}
+use Rattle.bench.proofs.feed.store.Statement.{statement}
+use Rattle.bench.proofs.feed.store.Tie as tie
+
+pub store-spec : {M : Type 1} → statement M
+unfolding stored
+store-spec =
+    tie.close (tie.spec
+    (λ c. search needs) (λ c. search needs) (λ c. search needs) (λ c. search needs) (λ c. search needs) (λ c. search needs)
+    (λ c. rw (c .before .r .given .1))
+    (λ c. rw (c .before .r2 .given .1))
+    (λ c. rw (c .before .r3 .given .1))
+    (λ c. rw (c .before .r4 .given .1))
+    (λ c. rw (c .before .r5 .given .1))
+    (λ c. rw (c .before .r6 .given .1)))

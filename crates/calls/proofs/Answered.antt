@@ -1,0 +1,32 @@
+-- How every entry answers, by the refusal n that it found: a refused call with n and the bench as it came, an accepted one with 0 and what it does. Assumes nothing.
+use mathlib.Core.Path.{_≡_, refl, sym, ap, _∙_}
+use mathlib.Core.Bool.{cond}
+use Prim.Native.Nat.{ℕ}
+use borrow.Author.Tests.{eq-eqb, ne-eqb}
+use lib.Dec.{eqb}
+use Rattle.bench.specs.declared.Bench.{Bench}
+use Rattle.calls.specs.declared.answers.Answer.{Answer}
+use Rattle.calls.specs.Calls.{Call, refusal, done, ifAccepted, next, answer}
+
+module _ (b : Bench) (c : Call) (n : ℕ) (found : n ≡ refusal b c) where
+  pub if-refused : (n ≡ 0 → ⊥) → {A : Type 0} (x y : A) → y ≡ ifAccepted b c x y
+  if-refused k x y = rw (← found, ne-eqb n 0 k)
+
+  pub if-accepted : n ≡ 0 → {A : Type 0} (x y : A) → x ≡ ifAccepted b c x y
+  if-accepted e x y = rw (← found, e)
+
+  pub next-refused : (n ≡ 0 → ⊥) → b ≡ next b c
+  unfolding next
+  next-refused k = if-refused k (done c b) b
+
+  pub next-accepted : n ≡ 0 → {x : Bench} → x ≡ done c b → x ≡ next b c
+  unfolding next
+  next-accepted e d = d ∙ if-accepted e (done c b) b
+
+  pub answer-refused : (n ≡ 0 → ⊥) → record { refusal = n; bench = b } ≡ answer b c
+  unfolding answer
+  answer-refused k = λ i. record { refusal = found i; bench = next-refused k i }
+
+  pub answer-accepted : n ≡ 0 → {x : Bench} → x ≡ done c b → record { refusal = 0; bench = x } ≡ answer b c
+  unfolding answer
+  answer-accepted e d = λ i. record { refusal = (sym e ∙ found) i; bench = next-accepted e d i }

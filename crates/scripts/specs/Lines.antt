@@ -1,0 +1,61 @@
+-- Lines and what they ask for, or the number of what is wrong with them: examples for the reader. `lines` of proofs/Lines.antt computes them.
+use mathlib.Core.Path.{_≡_}
+use mathlib.Core.Bool.{true, false}
+use mathlib.Core.List.{List, [], _∷_, map}
+use Prim.Native.String.{String}
+use lib.IntN.{pos, negsuc}
+use lib.Ieee.{inf, nan}
+use Rattle.modes.specs.declared.Lateral.{Lateral}
+use Rattle.modes.specs.declared.ArmedLateral.{ArmedLateral}
+use Rattle.modes.specs.declared.Vertical.{Vertical}
+use Rattle.modes.specs.declared.Modes.{Modes}
+use Rattle.modes.specs.declared.ModeSet.{ModeSet}
+use Rattle.bench.specs.declared.Reading.{Reading}
+use Rattle.scripts.specs.declared.Command.{Command}
+use Rattle.scripts.specs.Commands.{bytes, commandOf}
+
+abbrev pub lgaVga : Modes
+lgaVga = record { lateral = Lateral.Lga; armed = ArmedLateral.Lappr; vertical = Vertical.Vga; «vappr_armed» = true }
+
+abbrev pub examples : List (String × Command)
+examples =
+    ("", Command.Blank)
+    ∷ ("  # event 4", Command.Blank)
+    ∷ ("event 4", Command.Event 4)
+    ∷ ("  event   4294967295 # all", Command.Event 4294967295)
+    ∷ ("event 4294967296", Command.Wrong 5)
+    ∷ ("event", Command.Wrong 3)
+    ∷ ("event 4 5", Command.Wrong 4)
+    ∷ ("events 4", Command.Wrong 2)
+    ∷ ("send 1", Command.Send 1)
+    ∷ ("refresh 0", Command.Refresh 0)
+    ∷ ("display 1", Command.Display 1)
+    ∷ ("pick 7", Command.Pick 7)
+    ∷ ("turn 3 255", Command.Turn 3 255)
+    ∷ ("turn 3 256", Command.Wrong 6)
+    ∷ ("turn x 1", Command.Wrong 5)
+    ∷ ("reading airspeed inf", Command.Reading (Reading.Airspeed (inf false)))
+    ∷ ("reading heading nan", Command.Reading (Reading.Heading nan))
+    ∷ ("reading speed 1", Command.Wrong 7)
+    ∷ ("reading roll x", Command.Wrong 8)
+    ∷ ("power-on", Command.PowerOn)
+    ∷ ("bench", Command.Bench)
+    ∷ ("panel", Command.Panel)
+    ∷ ("panel 1", Command.Wrong 4)
+    ∷ ("damage pf 255", Command.DamagePf 255)
+    ∷ ("damage pf 256", Command.Wrong 6)
+    ∷ ("damage", Command.Wrong 9)
+    ∷ ("damage right-inbox set 0 9 9 9", Command.DamageSet 3 ModeSet.Off)
+    ∷ ("damage left set 0 9 9 x", Command.Wrong 12)
+    ∷ ("damage left set 5 2 8 1", Command.DamageSet 0 (ModeSet.On lgaVga))
+    ∷ ("damage left set 5 2 0 1", Command.Wrong 12)
+    ∷ ("damage right pitch -12", Command.DamageReference 1 6 (negsuc 11))
+    ∷ ("damage left-inbox heading 12", Command.DamageReference 2 0 (pos 12))
+    ∷ ("damage left heading 1.5", Command.Wrong 11)
+    ∷ ("damage left speed 1", Command.Wrong 10)
+    ∷ ("damage reading pitch -inf", Command.DamageReading (Reading.Pitch (inf true)))
+    ∷ []
+
+-- each line asks for what stands beside it
+pub record Lines : Type 0 where
+  pub each : map (λ (e : String × Command). commandOf (bytes (e .0))) examples ≡ map (λ (e : String × Command). e .1) examples
