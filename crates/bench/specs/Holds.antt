@@ -23,7 +23,7 @@ startReadings = record {
   heading = ofBits binary64 0;
 }
 
--- PF is left, AP disengaged, the flag clear and every count 0
+-- left has PF, neither AP nor the flag is on, and all four counts are 0
 unfoldable pub powerOn : Bench
 powerOn = record {
   shared = record { pf = 0; ap = false; overspeed = false };

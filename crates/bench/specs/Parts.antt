@@ -124,7 +124,7 @@ zeroReferences = record { heading = pos 0; preselected = pos 0; held = pos 0; «
 abbrev pub withPf : ℕ → Shared → Shared
 withPf x s = record { pf = x; ap = s .ap; overspeed = s .overspeed }
 
--- ---- counts, by knob: 0 the wheel, 1 altitude, 2 speed, 3 heading
+-- ---- counts, by the number of the knob, 0 to 3 in the order of the fields
 
 abbrev pub countOf : ℕ → Counts → ℕ
 countOf knob c = cond (eqb knob 0) (c .wheel) (cond (eqb knob 1) (c .altitude) (cond (eqb knob 2) (c .speed) (c .heading)))

@@ -18,11 +18,11 @@ floatOf (Reading.Roll x) = x
 floatOf (Reading.Pitch x) = x
 floatOf (Reading.Heading x) = x
 
--- the whole value of a reading, which the range is judged on and entry loads; a kind's own rule would stand here
+-- the whole value of a reading, which is compared with the range and loaded by entry; a kind's own rule would stand here
 unfoldable pub wholeReading : Reading → Whole
 wholeReading r = wholeOf (floatOf r)
 
--- 5: infinity or not a number; 6: the whole value is out of range; 0: accepted
+-- 5 where the float is not finite, 6 where its whole value lies outside the range, else 0: no refusal
 abbrev pub judged : Range → Whole → ℕ
 judged r Whole.NotFinite = 5
 judged r Whole.Beyond = 6

@@ -1,4 +1,4 @@
--- Sides, numbered 0 left and 1 right. Document 01, 'What a bench value holds'.
+-- The two sides: 0 is the left one, 1 the right one. Document 01, 'What a bench value holds'.
 use mathlib.Core.Bool.{Bool, cond}
 use Prim.Native.Nat.{ℕ}
 use lib.Dec.{eqb}
@@ -32,6 +32,6 @@ acts b s = eqb s (b .shared .pf)
 abbrev pub whereActing : (ℕ → Bench → Bench) → ℕ → Bench → Bench
 whereActing f s b = cond (acts b s) (f s b) b
 
--- a change of each side that acts, each judged on its own
+-- a change made on each side that acts, left first
 abbrev pub onActing : (ℕ → Bench → Bench) → Bench → Bench
 onActing f b = whereActing f 1 (whereActing f 0 b)

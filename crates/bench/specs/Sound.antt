@@ -22,7 +22,7 @@ referencesSound r = inRange 0 r && inRange 1 r && inRange 2 r && inRange 3 r && 
 unfoldable pub channelSound : Channel → Bool
 channelSound c = coherentSet (c .set) && referencesSound (c .references)
 
--- neither 5 nor 6 would turn the reading away
+-- the reading could be accepted: its own refusal is 0
 abbrev pub valid : Reading → Bool
 valid r = eqb (refusalOf r) 0
 

@@ -1,12 +1,10 @@
-// Readings of the air data feed: their whole values, which are refused, and how one is stored.
+// Readings of the air data feed: their whole values, and which are refused.
 use crate::Reading;
-use crate::Readings;
 use crate::ranges::Range;
 use crate::ranges::is_within;
-use crate::ranges::reading_range;
 use rounding::Whole;
 ghost use mathlib.Core.Path.{_≡_};
-ghost use Rattle.bench.specs.Readings.{floatOf, wholeReading, judged, refusalOf, wholeNumber, stored};
+ghost use Rattle.bench.specs.Readings.{floatOf, wholeReading, judged, wholeNumber};
 
 fn float_of(r: Reading) -> f64
     ensures { λ res. ⌜ res ≡ floatOf r ⌝ }
@@ -29,7 +27,7 @@ pub fn whole_reading(r: Reading) -> Whole
 }
 
 // The refusal of a whole value with a range: 5 where there is none, 6 where it is out of range, else 0.
-fn judge(range: Range, whole: Whole) -> u32
+pub fn judge(range: Range, whole: Whole) -> u32
     ensures { λ res. ⌜ res ≡ judged range whole ⌝ }
 {
     match whole {
@@ -42,14 +40,6 @@ fn judge(range: Range, whole: Whole) -> u32
     }
 }
 
-// The refusal of a reading: 0, 5 or 6.
-pub fn reading_refusal(r: Reading) -> u32
-    ensures { λ res. ⌜ res ≡ refusalOf r ⌝ }
-{
-    let whole = whole_reading(r);
-    judge(reading_range(r), whole)
-}
-
 // The whole value of a stored reading as a number. A sound bench holds none without one.
 pub fn whole_number(r: Reading) -> i32
     ensures { λ res. ⌜ res ≡ wholeNumber r ⌝ }
@@ -59,38 +49,5 @@ pub fn whole_number(r: Reading) -> i32
         Whole::NotFinite => 0,
         Whole::Beyond => 0,
         Whole::Value(v) => v,
-    }
-}
-
-// The readings with one of them replaced.
-pub fn store(w: Readings, r: Reading) -> Readings
-    ensures { λ res. ⌜ res ≡ stored r w ⌝ }
-{
-    let mut next = w;
-    match r {
-        Reading::Altitude(x) => {
-            next.altitude = x;
-            next
-        }
-        Reading::Airspeed(x) => {
-            next.airspeed = x;
-            next
-        }
-        Reading::VerticalSpeed(x) => {
-            next.vertical_speed = x;
-            next
-        }
-        Reading::Roll(x) => {
-            next.roll = x;
-            next
-        }
-        Reading::Pitch(x) => {
-            next.pitch = x;
-            next
-        }
-        Reading::Heading(x) => {
-            next.heading = x;
-            next
-        }
     }
 }

@@ -4,7 +4,6 @@ pub mod feed;
 pub mod parts;
 pub mod ranges;
 
-use feed::reading_refusal;
 use modes::ModeSet;
 use parts::HEADING;
 use parts::HELD;
@@ -16,12 +15,15 @@ use parts::VERTICAL_SPEED;
 use parts::box_of;
 use parts::with_reference;
 use parts::zero_references;
+use ranges::Range;
 use ranges::reference_in_range;
 ghost use mathlib.Core.Path.{_≡_};
+ghost use lib.Dec.{eqb};
 ghost use Rattle.bench.specs.Parts.{box};
 ghost use Rattle.bench.specs.Holds.{powerOn, startChannel};
 ghost use Rattle.bench.specs.Sides.{acts, otherSide};
-ghost use Rattle.bench.specs.Sound.{referencesSound, channelSound, valid, readingsSound, sound};
+ghost use Rattle.bench.specs.Readings.{wholeReading, judged};
+ghost use Rattle.bench.specs.Sound.{referencesSound, channelSound, readingsSound, sound};
 
 // What the two sides share and an event can change: the PF side, AP and the overspeed flag.
 pub struct Shared {
@@ -30,8 +32,8 @@ pub struct Shared {
     pub overspeed: bool,
 }
 
-// The targets that modes steer to: degrees, feet, hundreds of feet a minute, knots. Their places are
-// 0 to 6 in this order.
+// What modes aim for, in degrees, feet, hundreds of feet a minute, knots. Their places are 0 to 6
+// in this order.
 pub struct References {
     pub heading: i32,
     pub preselected: i32,
@@ -173,21 +175,26 @@ fn box_sound(b: Bench, number: u32) -> bool
     coherent & in_range
 }
 
-fn is_valid(r: Reading) -> bool
-    ensures { λ res. ⌜ res ≡ valid r ⌝ }
+// Whether a reading would be accepted whose kind has this range.
+fn is_valid(range: Range, r: Reading) -> bool
+    ensures { λ res. ⌜ res ≡ eqb (judged range (wholeReading r)) 0 ⌝ }
 {
-    reading_refusal(r) == 0
+    let whole = feed::whole_reading(r);
+    feed::judge(range, whole) == 0
 }
 
 fn readings_sound(w: Readings) -> bool
     ensures { λ res. ⌜ res ≡ readingsSound w ⌝ }
 {
-    let altitude = is_valid(Reading::Altitude(w.altitude));
-    let airspeed = is_valid(Reading::Airspeed(w.airspeed));
-    let vertical_speed = is_valid(Reading::VerticalSpeed(w.vertical_speed));
-    let roll = is_valid(Reading::Roll(w.roll));
-    let pitch = is_valid(Reading::Pitch(w.pitch));
-    let heading = is_valid(Reading::Heading(w.heading));
+    let altitude = is_valid(ranges::ALTITUDE, Reading::Altitude(w.altitude));
+    let airspeed = is_valid(ranges::AIRSPEED, Reading::Airspeed(w.airspeed));
+    let vertical_speed = is_valid(
+        ranges::VERTICAL_SPEED,
+        Reading::VerticalSpeed(w.vertical_speed),
+    );
+    let roll = is_valid(ranges::ROLL, Reading::Roll(w.roll));
+    let pitch = is_valid(ranges::PITCH, Reading::Pitch(w.pitch));
+    let heading = is_valid(ranges::HEADING, Reading::Heading(w.heading));
     altitude & airspeed & vertical_speed & roll & pitch & heading
 }
 

@@ -1,17 +1,38 @@
 // The ranges of references and of readings, each in this one place.
-use crate::Reading;
 use crate::References;
 use crate::parts::reference_at;
 ghost use mathlib.Core.Path.{_≡_};
 ghost use lib.IntN.{_+ℤ_};
 ghost use Rattle.bench.specs.Parts.{reference};
-ghost use Rattle.bench.specs.Ranges.{within, clamped, referenceRange, readingRange};
+ghost use Rattle.bench.specs.Ranges.{within, clamped, referenceRange};
 
 // The integers from low to high, both included.
 pub struct Range {
     pub low: i32,
     pub high: i32,
 }
+
+// The ranges of the readings' whole values, by kind.
+pub const ALTITUDE: Range = Range {
+    low: -8000,
+    high: 56000,
+};
+
+pub const AIRSPEED: Range = Range { low: 0, high: 600 };
+
+pub const VERTICAL_SPEED: Range = Range {
+    low: -300,
+    high: 300,
+};
+
+pub const ROLL: Range = Range {
+    low: -180,
+    high: 179,
+};
+
+pub const PITCH: Range = Range { low: -90, high: 89 };
+
+pub const HEADING: Range = Range { low: 0, high: 359 };
 
 // The range of the reference at a place.
 pub fn reference_range(place: u32) -> Range
@@ -31,29 +52,6 @@ pub fn reference_range(place: u32) -> Range
         4 => Range { low: 60, high: 400 },
         5 => Range { low: -27, high: 27 },
         _ => Range { low: -20, high: 20 },
-    }
-}
-
-// The range of a reading's whole value.
-pub fn reading_range(r: Reading) -> Range
-    ensures { λ res. ⌜ res ≡ readingRange r ⌝ }
-{
-    match r {
-        Reading::Altitude(_) => Range {
-            low: -8000,
-            high: 56000,
-        },
-        Reading::Airspeed(_) => Range { low: 0, high: 600 },
-        Reading::VerticalSpeed(_) => Range {
-            low: -300,
-            high: 300,
-        },
-        Reading::Roll(_) => Range {
-            low: -180,
-            high: 179,
-        },
-        Reading::Pitch(_) => Range { low: -90, high: 89 },
-        Reading::Heading(_) => Range { low: 0, high: 359 },
     }
 }
 

@@ -6,22 +6,23 @@ use borrow.Author.Tests.{eq-eqb, ne-eqb}
 use lib.Dec.{eqb}
 use Rattle.bench.specs.declared.Bench.{Bench}
 use Rattle.calls.specs.declared.answers.Answer.{Answer}
-use Rattle.calls.specs.Calls.{Call, refusal, done, ifAccepted, next, answer}
+use Rattle.calls.specs.Calls.{Call, refusal, done, next, answer}
 
-module _ (b : Bench) (c : Call) (n : ℕ) (found : n ≡ refusal b c) where
-  pub if-refused : (n ≡ 0 → ⊥) → {A : Type 0} (x y : A) → y ≡ ifAccepted b c x y
+module _ (m n : ℕ) (found : n ≡ m) where
+  pub if-refused : (n ≡ 0 → ⊥) → {A : Type 0} (x y : A) → y ≡ cond (eqb m 0) x y
   if-refused k x y = rw (← found, ne-eqb n 0 k)
 
-  pub if-accepted : n ≡ 0 → {A : Type 0} (x y : A) → x ≡ ifAccepted b c x y
+  pub if-accepted : n ≡ 0 → {A : Type 0} (x y : A) → x ≡ cond (eqb m 0) x y
   if-accepted e x y = rw (← found, e)
 
+module _ (b : Bench) (c : Call) (n : ℕ) (found : n ≡ refusal b c) where
   pub next-refused : (n ≡ 0 → ⊥) → b ≡ next b c
   unfolding next
-  next-refused k = if-refused k (done c b) b
+  next-refused k = if-refused (refusal b c) n found k (done c b) b
 
   pub next-accepted : n ≡ 0 → {x : Bench} → x ≡ done c b → x ≡ next b c
   unfolding next
-  next-accepted e d = d ∙ if-accepted e (done c b) b
+  next-accepted e d = d ∙ if-accepted (refusal b c) n found e (done c b) b
 
   pub answer-refused : (n ≡ 0 → ⊥) → record { refusal = n; bench = b } ≡ answer b c
   unfolding answer

@@ -10,7 +10,7 @@ use Rattle.bench.specs.declared.Bench.{Bench}
 use Rattle.bench.specs.Parts.{withReadings}
 use Rattle.bench.specs.Readings.{refusalOf, stored}
 use Rattle.bench.specs.Sound.{sound}
-use Rattle.steps.specs.Steps.{threeSteps}
+use Rattle.steps.specs.Steps.{acted}
 use Rattle.knobs.specs.Knobs.{turned}
 use Rattle.calls.specs.declared.answers.Answer.{Answer}
 use Rattle.calls.specs.declared.answers.EventAnswer.{EventAnswer}
@@ -19,7 +19,7 @@ use Rattle.calls.specs.declared.answers.DisplayAnswer.{DisplayAnswer}
 use Rattle.calls.specs.Sends.{sent, refreshed}
 use Rattle.calls.specs.Displays.{shown, blank}
 
--- a call: its kind and its arguments other than the bench
+-- a call: which entry is called, and what it is given besides the bench
 pub data Call : Type 0 where
   -- an event word
   event : ℕ → Call
@@ -33,15 +33,15 @@ pub data Call : Type 0 where
 
 -- ---- refusals
 
--- 2: side above 1
+-- 2 where the number names no side
 abbrev pub sideRefusal : ℕ → ℕ
 sideRefusal s = cond (leb s 1) 0 2
 
--- 3: knob above 3
+-- 3 where the number names no knob
 abbrev pub knobRefusal : ℕ → ℕ
 knobRefusal knob = cond (leb knob 3) 0 3
 
--- 4: a bit 20 to 31 set
+-- 4 where a bit past those of the events is set, so that the word is 2 ^ 20 = 1048576 or more
 abbrev pub wordRefusal : ℕ → ℕ
 wordRefusal word = cond (leb 1048576 word) 4 0
 
@@ -54,23 +54,19 @@ ownRefusal (send s) = sideRefusal s
 ownRefusal (refresh s) = sideRefusal s
 ownRefusal (display s) = sideRefusal s
 
--- 1, an unsound bench, is tried first
+-- 1, of an unsound bench, goes before a call's own refusal
 unfoldable pub refusal : Bench → Call → ℕ
 refusal b c = cond (sound b) (ownRefusal c) 1
 
 -- ---- what an accepted call does
 
--- the event of a number is acted on; 32 is none
-unfoldable pub acted : ℕ → Bench → Bench
-acted n b = cond (eqb n 32) b (threeSteps (eventAt n) b)
-
--- the float of an accepted reading is stored
+-- an accepted reading takes the place of the last one of its kind
 unfoldable pub received : Reading → Bench → Bench
 received r b = withReadings (stored r (b .readings)) b
 
--- a word stands for its lowest set bit's number; a display changes nothing
+-- a word stands for the event of its lowest set bit, and 0 for none; a display changes nothing
 abbrev pub done : Call → Bench → Bench
-done (event word) b = acted (trailingZeros 32 word) b
+done (event word) b = acted (eventAt (trailingZeros 32 word)) b
 done (turn knob n) b = turned knob n b
 done (reading r) b = received r b
 done (send s) b = sent s b

@@ -8,7 +8,7 @@ use Rattle.bench.specs.Parts.{zeroReferences}
 use Rattle.bench.specs.Sides.{side}
 use Rattle.calls.specs.declared.answers.Display.{Display}
 
--- PF left 128, PF right 256
+-- the lamp of PF: 128 while left has it, 256 while right has it
 abbrev pub pfLamp : ℕ → ℕ
 pfLamp pf = cond (eqb pf 0) 128 256
 
@@ -26,7 +26,7 @@ shown b s = record {
   lamps = lamps b s;
 }
 
--- a display of all zeros
+-- what a refused display shows: every number is 0
 abbrev pub blank : Display
 blank = record {
   fd = false;

@@ -1,3 +1,4 @@
 pub mod Sends
 pub mod Displays
 pub mod Calls
+pub mod Private

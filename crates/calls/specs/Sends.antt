@@ -7,14 +7,14 @@ use Rattle.bench.specs.Sides.{otherSide, inboxOf, side, inbox, acts}
 use Rattle.steps.specs.Entry.{settled}
 use Rattle.steps.specs.Steps.{secondStep}
 
--- a send copies a side's channel to the other side's inbox
+-- what a side holds is put into the other side's inbox
 unfoldable pub sent : ℕ → Bench → Bench
 sent s b = withBox (inboxOf (otherSide s)) (side b s) b
 
--- set and references come from the inbox, and the flight director stays
+-- all that the inbox holds is taken over but the flight director
 unfoldable pub taken : ℕ → Bench → Bench
 taken s b = withBox s (withReferences (inbox b s .references) (withSet (inbox b s .set) (side b s))) b
 
--- a side that acts does the second step of an event, with entry; one that does not takes what was sent to it
+-- a side that acts goes through an event's second step and entry; any other takes over its inbox
 unfoldable pub refreshed : ℕ → Bench → Bench
 refreshed s b = cond (acts b s) (settled (secondStep s b) s b) (taken s b)

@@ -1,6 +1,6 @@
 // The calls of the bench. Each takes any bench and any arguments, and answers: an unsound bench is
-// refused with 1 first, then what document 01 names for the call; a refused call hands its bench
-// back.
+// refused with 1 first, then what document 01 names for the call; where a call refuses, its bench
+// stays as it came.
 pub mod answers;
 
 use answers::Answer;
@@ -8,17 +8,23 @@ use answers::Display;
 use answers::DisplayAnswer;
 use answers::EventAnswer;
 use bench::Bench;
+use bench::Readings;
 use bench::parts::box_of;
 use bench::parts::inbox_of;
 use bench::parts::with_box;
+use bench::ranges;
+use bench::ranges::Range;
+use rounding::Whole;
 ghost use mathlib.Core.Path.{_≡_};
 ghost use mathlib.Core.Bool.{cond};
+ghost use Rattle.bench.specs.Readings.{judged};
 ghost use Rattle.bench.specs.Sound.{sound};
 ghost use Rattle.calls.specs.Displays.{pfLamp, lamps, shown, blank};
-ghost use Rattle.calls.specs.Calls.{Call, sideRefusal, knobRefusal, wordRefusal, acted, received, answer, eventAnswer, displayAnswer};
+ghost use Rattle.calls.specs.Calls.{Call, sideRefusal, knobRefusal, wordRefusal, answer, eventAnswer, displayAnswer};
+ghost use Rattle.calls.specs.Private.{receivedAs, takenFrom};
 ghost use Rattle.calls.specs.Sends.{sent, taken, refreshed};
 
-// The refusal of a call whose own arguments give `own`: 1, an unsound bench, is tried first.
+// The refusal of a call whose own arguments give `own`: 1, of an unsound bench, goes before it.
 fn refusal_of(b: Bench, own: u32) -> u32
     ensures { λ res. ⌜ res ≡ cond (sound b) own 1 ⌝ }
 {
@@ -35,7 +41,10 @@ fn side_refusal(side: u32) -> u32
 fn knob_refusal(knob: u32) -> u32
     ensures { λ res. ⌜ res ≡ knobRefusal knob ⌝ }
 {
-    if knob <= 3 { 0 } else { 3 }
+    match knob {
+        0..=3 => 0,
+        _ => 3,
+    }
 }
 
 fn word_refusal(word: u32) -> u32
@@ -44,17 +53,7 @@ fn word_refusal(word: u32) -> u32
     if 1048576 <= word { 4 } else { 0 }
 }
 
-// The event of a number is acted on; 32 is none.
-fn act(b: Bench, number: u32) -> Bench
-    ensures { λ res. ⌜ res ≡ acted number b ⌝ }
-{
-    match number {
-        32 => b,
-        _ => steps::three_steps(events::event_at(number), b),
-    }
-}
-
-// An event word: the lowest bit set is acted on.
+// An event word: its lowest set bit names the event.
 pub fn event(b: Bench, word: u32) -> EventAnswer
     ensures { λ res. ⌜ res ≡ eventAnswer b word ⌝ }
 {
@@ -67,7 +66,7 @@ pub fn event(b: Bench, word: u32) -> EventAnswer
         };
     }
     let number = u32::trailing_zeros(word);
-    let bench = act(b, number);
+    let bench = steps::act(events::event_at(number), b);
     EventAnswer {
         refusal: 0,
         event: number,
@@ -87,23 +86,50 @@ pub fn turn(b: Bench, knob: u32, new: u8) -> Answer
     Answer { refusal: 0, bench }
 }
 
-fn receive(b: Bench, r: bench::Reading) -> Bench
-    ensures { λ res. ⌜ res ≡ received r b ⌝ }
+// The answer to a reading with this range and this whole value, which would leave these readings.
+fn receive(b: Bench, range: Range, whole: Whole, next: Readings) -> Answer
+    ensures { λ res. ⌜ res ≡ receivedAs (judged range whole) next b ⌝ }
 {
-    let was = b.readings;
-    bench::parts::with_readings(b, bench::feed::store(was, r))
-}
-
-// A reading of the air data feed.
-pub fn reading(b: Bench, r: bench::Reading) -> Answer
-    ensures { λ res. ⌜ res ≡ answer b (Call.reading r) ⌝ }
-{
-    let refusal = refusal_of(b, bench::feed::reading_refusal(r));
+    let refusal = refusal_of(b, bench::feed::judge(range, whole));
     if refusal != 0 {
         return Answer { refusal, bench: b };
     }
-    let bench = receive(b, r);
+    let bench = bench::parts::with_readings(b, next);
     Answer { refusal: 0, bench }
+}
+
+// A reading of the air data feed. Each kind has its range and its field.
+pub fn reading(b: Bench, r: bench::Reading) -> Answer
+    ensures { λ res. ⌜ res ≡ answer b (Call.reading r) ⌝ }
+{
+    let whole = bench::feed::whole_reading(r);
+    let mut next = b.readings;
+    match r {
+        bench::Reading::Altitude(x) => {
+            next.altitude = x;
+            receive(b, ranges::ALTITUDE, whole, next)
+        }
+        bench::Reading::Airspeed(x) => {
+            next.airspeed = x;
+            receive(b, ranges::AIRSPEED, whole, next)
+        }
+        bench::Reading::VerticalSpeed(x) => {
+            next.vertical_speed = x;
+            receive(b, ranges::VERTICAL_SPEED, whole, next)
+        }
+        bench::Reading::Roll(x) => {
+            next.roll = x;
+            receive(b, ranges::ROLL, whole, next)
+        }
+        bench::Reading::Pitch(x) => {
+            next.pitch = x;
+            receive(b, ranges::PITCH, whole, next)
+        }
+        bench::Reading::Heading(x) => {
+            next.heading = x;
+            receive(b, ranges::HEADING, whole, next)
+        }
+    }
 }
 
 fn post(b: Bench, side: u32) -> Bench
@@ -113,7 +139,7 @@ fn post(b: Bench, side: u32) -> Bench
     with_box(b, inbox_of(bench::other_side(side)), c)
 }
 
-// A side's flight director, set and references go to the other side's inbox.
+// What a side holds goes to the other side's inbox.
 pub fn send(b: Bench, side: u32) -> Answer
     ensures { λ res. ⌜ res ≡ answer b (Call.send side) ⌝ }
 {
@@ -125,16 +151,23 @@ pub fn send(b: Bench, side: u32) -> Answer
     Answer { refusal: 0, bench }
 }
 
-// Set and references from the inbox; the flight director stays.
+// A side takes set and references of a box over; its flight director stays.
+fn take_from(b: Bench, side: u32, source: u32) -> Bench
+    ensures { λ res. ⌜ res ≡ takenFrom source side b ⌝ }
+{
+    let c = box_of(b, side);
+    let given = box_of(b, source);
+    let set = given.set;
+    let references = given.references;
+    let next = bench::parts::with_set(c, set);
+    with_box(b, side, bench::parts::with_references(next, references))
+}
+
+// What was sent to the side last is in its inbox.
 fn take(b: Bench, side: u32) -> Bench
     ensures { λ res. ⌜ res ≡ taken side b ⌝ }
 {
-    let c = box_of(b, side);
-    let sent = box_of(b, inbox_of(side));
-    let set = sent.set;
-    let references = sent.references;
-    let next = bench::parts::with_set(c, set);
-    with_box(b, side, bench::parts::with_references(next, references))
+    take_from(b, side, inbox_of(side))
 }
 
 fn renew(b: Bench, side: u32) -> Bench
@@ -170,7 +203,7 @@ fn pf_lamp(pf: u32) -> u32
     }
 }
 
-// The mode lamps of a side, AP 64, PF left 128 and PF right 256.
+// The mode lamps of a side, 64 for AP, and 128 or 256 for the side that has PF.
 fn lamps_of(b: Bench, side: u32) -> u32
     ensures { λ res. ⌜ res ≡ lamps b side ⌝ }
 {

@@ -11,7 +11,7 @@ use Rattle.modes.specs.declared.Modes.{Modes}
 use Rattle.modes.specs.Every.{everyModes, sameModes}
 use Rattle.modes.proofs.Every.{agree, agree-cases}
 use Rattle.modes.specs.Sets.{HDG, NAV, LAPPR, PITCH, VS, ALT, ALTSEL, VAPPR, armsNav, armsLappr, engaged, armed, cleared, withLateral, withVertical}
-use Rattle.modes.specs.Sets.{withArmed, withVapprArmed, basicModes, put, disarm, arm, drop, clear, engage}
+use Rattle.modes.specs.Sets.{withArmed, withVapprArmed, put, disarm, arm, drop, clear, engage}
 use Rattle.modes.specs.Numbers.{lateralNumber, verticalNumber}
 use Rattle.modes.specs.Events.{overspeed, goAround, clearArmed, takeBasic, clearNavigation, capture, captureVappr, track, switch, switchNav, switchAppr, switchFlc}
 use Rattle.changes.specs.Private.{toLateral, toVertical}
@@ -38,7 +38,7 @@ pub gone-around : (m : Modes) → toVertical Vertical.Vga (toLateral Lateral.Lga
 unfolding engaged armed put disarm drop clear engage goAround
 gone-around = agree _ goAround tt
 
-pub basic-taken : (m : Modes) → basicModes ≡ takeBasic m
+pub basic-taken : (m : Modes) → withVertical Vertical.Pitch (withLateral Lateral.Roll (withVapprArmed false (withArmed ArmedLateral.Neither m))) ≡ takeBasic m
 unfolding engaged armed put disarm drop clear engage takeBasic clearArmed
 basic-taken = agree _ takeBasic tt
 

@@ -9,13 +9,12 @@ use modes::numbers::arms_lappr;
 use modes::numbers::arms_nav;
 use modes::numbers::lateral_number;
 use modes::numbers::vertical_number;
-use modes::sets::basic_modes;
 ghost use mathlib.Core.Path.{_≡_};
 ghost use mathlib.Core.Bool.{cond};
 ghost use Rattle.modes.specs.declared.ArmedLateral.{ArmedLateral};
 ghost use Rattle.modes.specs.Sets.{PITCH, NAV, LAPPR, HDG, VS, ALT, ALTSEL, VAPPR, clear, engage, withLateral, withVertical, withArmed, withVapprArmed};
-ghost use Rattle.modes.specs.Events.{lineOf, overspeed, capture, captureVappr, track, switch, switchNav, switchAppr, switchFlc};
-ghost use Rattle.changes.specs.Private.{toLateral, toVertical};
+ghost use Rattle.modes.specs.Events.{lineOf, overspeed, takeBasic, capture, captureVappr, track, switch, switchNav, switchAppr, switchFlc};
+ghost use Rattle.changes.specs.Private.{toLateral, vapprBeside, toVertical};
 
 fn with_lateral(m: Modes, l: Lateral) -> Modes
     ensures { λ res. ⌜ res ≡ withLateral l m ⌝ }
@@ -125,16 +124,25 @@ fn to_lateral(m: Modes, l: Lateral) -> Modes
     }
 }
 
-// VAPPR that was engaged (law 7) is not armed afterwards; one that was armed stays so.
+// Whether VAPPR is armed when another vertical mode engages: one that was armed stays so, and one that
+// was engaged (law 7) is cleared.
+fn vappr_beside(law: u32, armed: bool) -> bool
+    ensures { λ res. ⌜ res ≡ vapprBeside law armed ⌝ }
+{
+    match law {
+        7 => false,
+        _ => armed,
+    }
+}
+
+// The vertical mode that is left is cleared. Only VAPPR has an arming of its own.
 fn to_vertical(m: Modes, v: Vertical) -> Modes
     ensures { λ res. ⌜ res ≡ toVertical v m ⌝ }
 {
     let was = m.vertical;
     let law = vertical_number(was);
-    match law {
-        7 => with_vertical(with_vappr_armed(m, false), v),
-        _ => with_vertical(m, v),
-    }
+    let armed = vappr_beside(law, m.vappr_armed);
+    with_vertical(with_vappr_armed(m, armed), v)
 }
 
 // PITCH engages: what a turned knob can ask for.
@@ -158,6 +166,14 @@ fn overspeed_begins(flag: bool, m: Modes) -> Modes
             to_vertical(m, Vertical::Flc)
         },
     }
+}
+
+// 5: what was armed on the side that takes over is cleared, and ROLL and PITCH engage.
+fn take_basic(m: Modes) -> Modes
+    ensures { λ res. ⌜ res ≡ takeBasic m ⌝ }
+{
+    let unarmed = with_vappr_armed(with_armed(m, ArmedLateral::Neither), false);
+    with_vertical(with_lateral(unarmed, Lateral::Roll), Vertical::Pitch)
 }
 
 // 9
@@ -282,7 +298,7 @@ fn vs_switch(m: Modes) -> Modes
     }
 }
 
-// 18: FLC (law 3) engaged with the flag set stays.
+// 18: FLC is law 3; while the flag is set it is not cleared.
 fn flc_switch(flag: bool, m: Modes) -> Modes
     ensures { λ res. ⌜ res ≡ switchFlc flag m ⌝ }
 {
@@ -317,7 +333,7 @@ pub fn change(e: Event, flag: bool, m: Modes) -> Modes
     match e {
         Event::OverspeedBegins => overspeed_begins(flag, m),
         Event::GoAround => to_vertical(to_lateral(m, Lateral::Lga), Vertical::Vga),
-        Event::Transfer => basic_modes(),
+        Event::Transfer => take_basic(m),
         Event::SourceChanged => clear_lappr(clear_nav(m)),
         Event::NavCaptured => nav_captured(m),
         Event::LapprCaptured => lappr_captured(m),

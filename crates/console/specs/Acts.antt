@@ -1,4 +1,4 @@
--- The bench after a command. A call leaves what its definition says, `damage` writes past all rules, and what only shows leaves the bench as it is.
+-- The bench after a command. A call leaves what its definition says, `damage` what it is told to write, and what only shows changes nothing.
 use mathlib.Core.Bool.{cond}
 use mathlib.Core.List.{List}
 use Prim.Native.Nat.{ℕ}

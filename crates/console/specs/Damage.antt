@@ -1,4 +1,4 @@
--- What `damage` writes into a bench, past all rules. The console's page, 'damage'. A damaged reading is stored as `received` stores one.
+-- What `damage` changes in a bench, whatever the rules say. The console's page, 'damage'. A damaged reading is stored as `received` stores one.
 use Prim.Native.Nat.{ℕ}
 use lib.IntN.{ℤ}
 use Rattle.modes.specs.declared.ModeSet.{ModeSet}

@@ -1,9 +1,11 @@
-// Writes into a bench past all rules, so that the refusal of unsound benches can be tried.
+// Changes parts of a bench without asking any rule: a way to try refusal 1.
 ghost use mathlib.Core.Path.{_≡_};
+ghost use Rattle.bench.specs.Readings.{stored};
 ghost use Rattle.calls.specs.Calls.{received};
 ghost use Rattle.console.specs.Damage.{pfDamaged, setDamaged, referenceDamaged};
 use bench::Bench;
 use bench::Reading;
+use bench::Readings;
 use bench::parts::box_of;
 use bench::parts::with_box;
 use modes::ModeSet;
@@ -31,9 +33,42 @@ pub(crate) fn damage_reference(b: Bench, number: u32, place: u32, x: i32) -> Ben
     with_box(b, number, bench::parts::with_references(c, references))
 }
 
+// The readings with one of them replaced, whatever it is.
+fn store(w: Readings, r: Reading) -> Readings
+    ensures { λ res. ⌜ res ≡ stored r w ⌝ }
+{
+    let mut next = w;
+    match r {
+        Reading::Altitude(x) => {
+            next.altitude = x;
+            next
+        }
+        Reading::Airspeed(x) => {
+            next.airspeed = x;
+            next
+        }
+        Reading::VerticalSpeed(x) => {
+            next.vertical_speed = x;
+            next
+        }
+        Reading::Roll(x) => {
+            next.roll = x;
+            next
+        }
+        Reading::Pitch(x) => {
+            next.pitch = x;
+            next
+        }
+        Reading::Heading(x) => {
+            next.heading = x;
+            next
+        }
+    }
+}
+
 pub(crate) fn damage_reading(b: Bench, r: Reading) -> Bench
     ensures { λ res. ⌜ res ≡ received r b ⌝ }
 {
     let was = b.readings;
-    bench::parts::with_readings(b, bench::feed::store(was, r))
+    bench::parts::with_readings(b, store(was, r))
 }

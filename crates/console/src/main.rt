@@ -1,5 +1,5 @@
-// The console: reads a script from standard input, carries out its commands one after the other on
-// one bench, and writes an answer line for each. It decides nothing: the calls do.
+// The console: a script comes in line by line, its commands are done in turn on a bench that starts
+// as power-on's, and their answers go out. Nothing is decided here: the calls do that.
 mod answers;
 mod commands;
 mod damage;

@@ -1,4 +1,4 @@
-// A drawing of both panels, side by side, of what their displays show. A panel is 39 columns wide;
+// Draws both panels, side by side, with what their displays show. A panel is 39 columns wide;
 // below them stands the overspeed flag, which no display shows.
 ghost use Prim.Native.Nat.{_<_};
 use crate::output::put;
@@ -59,7 +59,7 @@ fn put_reference(out: &mut [u8], waiting: usize, place: u32, x: i32) -> usize {
     put_nth(out, at, units, place as usize, 9)
 }
 
-// Engaged and armed modes of an axis.
+// The modes of an axis: the engaged one, then those that are armed.
 fn put_lateral(out: &mut [u8], waiting: usize, law: u32, armed: u32) -> usize {
     let mut at = put_text(out, waiting, b" lateral  ");
     at = put_nth(out, at, b"- ROLL HDG NAV LAPPR LGA", law as usize, 15);

@@ -2,8 +2,10 @@
 // flight directors.
 use modes::Event;
 use modes::ModeSet;
-use modes::numbers::lateral_law;
-use modes::numbers::vertical_law;
+use modes::sets::engages_alt;
+use modes::sets::engages_flc;
+use modes::sets::engages_hdg;
+use modes::sets::engages_vs;
 use modes::sets::selects_lappr;
 use modes::sets::selects_nav;
 ghost use mathlib.Core.Path.{_≡_};
@@ -61,7 +63,7 @@ pub fn overspeed_after(e: Event, flag: bool) -> bool
     }
 }
 
-// Whether PF moves to the other side.
+// Whether the pilot flying changes sides.
 pub fn transfers(e: Event) -> bool
     ensures { λ res. ⌜ res ≡ lineOf e .transfers ⌝ }
 {
@@ -90,12 +92,12 @@ pub fn asks_fd(e: Event, ap: bool, flag: bool, s: ModeSet) -> bool
         Event::ApSwitch => !ap,
         Event::OverspeedBegins => !flag,
         Event::GoAround => true,
-        Event::HdgSwitch => lateral_law(s) != 2,
+        Event::HdgSwitch => !engages_hdg(s),
         Event::NavSwitch => !selects_nav(s),
         Event::ApprSwitch => !selects_lappr(s),
-        Event::VsSwitch => vertical_law(s) != 2,
-        Event::FlcSwitch => vertical_law(s) != 3,
-        Event::AltSwitch => vertical_law(s) != 4,
+        Event::VsSwitch => !engages_vs(s),
+        Event::FlcSwitch => !engages_flc(s),
+        Event::AltSwitch => !engages_alt(s),
         _ => false,
     }
 }

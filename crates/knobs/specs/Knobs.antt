@@ -32,7 +32,7 @@ pitched s b = settled (inOn (engage PITCH) (side b s .set)) s b
 
 -- ---- what a rotation r of each knob does on side s
 
--- the wheel moves the reference of VS and of PITCH and does nothing in VAPPR and Off; in another mode PITCH engages, and only entry sets its reference
+-- the wheel moves the reference of VS and of PITCH and does nothing in VAPPR and Off; over another mode it engages PITCH, with the reference that entry loads
 unfoldable pub wheelTurned : ℤ → ℕ → Bench → Bench
 wheelTurned r s b =
     cond (engagedIn VS (side b s .set)) (referenceMoved atVerticalSpeed r s b)
@@ -64,7 +64,7 @@ headingMoved r x = withReference atHeading (pos (modOf (reference atHeading x +�
 unfoldable pub headingTurned : ℤ → ℕ → Bench → Bench
 headingTurned r s b = referred (headingMoved r (side b s .references)) s b
 
--- knob 0 is the wheel, 1 altitude, 2 speed, 3 heading
+-- by the knob's number: the wheel, altitude and speed are 0 to 2, and heading is 3 (a call refuses the numbers above)
 unfoldable pub knobTurned : ℕ → ℤ → ℕ → Bench → Bench
 knobTurned knob r s b =
     cond (eqb knob 0) (wheelTurned r s b)
@@ -77,7 +77,7 @@ knobTurned knob r s b =
 unfoldable pub counted : ℕ → ℕ → Bench → Bench
 counted knob n b = withCounts (withCount knob n (b .counts)) b
 
--- the count is stored, and the same count again, a rotation of 0, does nothing else
+-- the new count is kept in any case; where it is the old one, a rotation of 0, that is all
 unfoldable pub turned : ℕ → ℕ → Bench → Bench
 turned knob n b =
     cond (eqb n (countOf knob (b .counts))) (counted knob n b)

@@ -123,13 +123,12 @@ fn in_altsel(s: ModeSet) -> bool
 {
     let law = modes::numbers::vertical_law(s);
     match law {
-        5 => true,
-        6 => true,
+        5 | 6 => true,
         _ => false,
     }
 }
 
-// The preselected altitude moves; where it changed and ALTSEL is engaged, PITCH engages.
+// The preselected altitude moves; if it is another one then, PITCH ends an engaged ALTSEL.
 fn turn_altitude(b: Bench, side: u32, amount: i32) -> Bench
     requires { ⌜ mag amount < 128 ⌝ }
     ensures { λ res. ⌜ res ≡ altitudeTurned amount side b ⌝ }

@@ -49,6 +49,9 @@ eventNumber FlcSwitch = 18
 eventNumber AltSwitch = 19
 eventNumber NoEvent = 32
 
+abbrev pub isNone : Event → Bool
+isNone e = eqb (eventNumber e) 32
+
 -- ---- what an event says of AP, the flag, PF and the flight directors, in the first step
 
 abbrev stays : Bool → Bool
@@ -63,7 +66,7 @@ on x = true
 abbrev toggles : Bool → Bool
 toggles x = not x
 
--- whether PF moves to the other side
+-- whether the pilot flying changes sides
 abbrev moves : Bool
 moves = true
 
@@ -99,7 +102,7 @@ unlessEngaged x ap flag s = not (engagedIn x s)
 abbrev unlessSelected : Mode → Bool → Bool → ModeSet → Bool
 unlessSelected x ap flag s = not (selectedIn x s)
 
--- ---- what an event does to an On set, in the third step: by the flag as handed in and the set that the second step left
+-- ---- what an event does to an On set, in the third step: by the flag as handed in and the set after the second step
 
 -- a change that the flag has no part in
 abbrev pub either : (Modes → Modes) → Bool → Modes → Modes
@@ -123,7 +126,7 @@ takeBasic m = engage PITCH (engage ROLL (clearArmed VAPPR (clearArmed LAPPR (cle
 unfoldable pub clearNavigation : Modes → Modes
 clearNavigation m = clear VAPPR (clear LAPPR (clear NAV m))
 
--- engages if armed
+-- the signal of x: it makes an armed x engage, and else does nothing
 unfoldable pub capture : Mode → Modes → Modes
 capture x m = cond (armed x m) (engage x m) m
 
@@ -134,7 +137,7 @@ captureVappr flag m = cond (armed VAPPR m && engaged LAPPR m && not flag) (engag
 unfoldable pub track : Modes → Modes
 track m = cond (eqb (verticalNumber (m .vertical)) 5) (withVertical Vertical.AltselTrack m) m
 
--- engaged is cleared, else it engages
+-- pressing the switch of x engages x, or clears it where it was engaged
 unfoldable pub switch : Mode → Modes → Modes
 switch x m = cond (engaged x m) (clear x m) (engage x m)
 
@@ -144,7 +147,7 @@ switchNav m = cond (cleared NAV m) (arm NAV (clearArmed LAPPR m)) (clear NAV m)
 unfoldable pub switchAppr : Modes → Modes
 switchAppr m = cond (cleared LAPPR m) (arm VAPPR (arm LAPPR (disarm NAV m))) (clear LAPPR m)
 
--- FLC engaged with the flag set stays
+-- while the flag is set the switch does not clear FLC
 unfoldable pub switchFlc : Bool → Modes → Modes
 switchFlc flag m = cond (engaged FLC m && flag) m (switch FLC m)
 

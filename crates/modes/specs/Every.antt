@@ -1,7 +1,7 @@
 -- The values that sets are made of, in the order of their numbers, and tests over the 240 representable On sets.
 use mathlib.Core.Bool.{Bool, true, false, _&&_, cond}
 use mathlib.Core.List.{List, [], _∷_}
-use Prim.Native.Nat.{ℕ, _+_}
+use Prim.Native.Nat.{ℕ}
 use lib.Dec.{eqb}
 use Rattle.modes.specs.declared.Lateral.{Lateral}
 use Rattle.modes.specs.declared.Vertical.{Vertical}
@@ -9,7 +9,6 @@ use Rattle.modes.specs.declared.ArmedLateral.{ArmedLateral}
 use Rattle.modes.specs.declared.Modes.{Modes}
 use Rattle.modes.specs.declared.ModeSet.{ModeSet}
 use Rattle.modes.specs.Finite.{every, total}
-use Rattle.modes.specs.Sets.{armsNav, armsLappr}
 use Rattle.modes.specs.Numbers.{lateralNumber, verticalNumber, worth}
 
 abbrev pub bothFlags : List Bool
@@ -42,7 +41,9 @@ countModes p =
 
 -- an armed lateral mode's part of the armed sum
 abbrev pub armedNumber : ArmedLateral → ℕ
-armedNumber a = worth (armsNav a) 1 + worth (armsLappr a) 2
+armedNumber ArmedLateral.Neither = 0
+armedNumber ArmedLateral.Nav = 1
+armedNumber ArmedLateral.Lappr = 2
 
 abbrev pub flagNumber : Bool → ℕ
 flagNumber f = worth f 1

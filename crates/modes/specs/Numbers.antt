@@ -23,12 +23,12 @@ verticalNumber Vertical.AltselTrack = 6
 verticalNumber Vertical.Vappr = 7
 verticalNumber Vertical.Vga = 8
 
--- the lateral law: 0 Off, else that of the engaged lateral mode
+-- the lateral law: that of the engaged lateral mode, and 0 where the set is Off
 abbrev pub lateralLaw : ModeSet → ℕ
 lateralLaw ModeSet.Off = 0
 lateralLaw (ModeSet.On m) = lateralNumber (m .lateral)
 
--- the vertical law: 0 Off, else that of the engaged vertical mode
+-- the vertical law: that of the engaged vertical mode, and 0 where the set is Off
 abbrev pub verticalLaw : ModeSet → ℕ
 verticalLaw ModeSet.Off = 0
 verticalLaw (ModeSet.On m) = verticalNumber (m .vertical)
@@ -42,7 +42,7 @@ unfoldable pub armedSum : ModeSet → ℕ
 armedSum ModeSet.Off = 0
 armedSum (ModeSet.On m) = worth (armed NAV m) 1 + worth (armed LAPPR m) 2 + worth (armed ALTSEL m) 4 + worth (armed VAPPR m) 8
 
--- the mode lamps: NAV and APPR are lit while their mode is armed or engaged, the others while it is engaged
+-- the mode lamps: those of NAV and APPR show a mode that is armed or engaged, the others only an engaged one
 unfoldable pub modeLamps : ModeSet → ℕ
 modeLamps ModeSet.Off = 0
 modeLamps (ModeSet.On m) =

@@ -21,7 +21,7 @@ lateralMode Lateral.Nav = NAV
 lateralMode Lateral.Lappr = LAPPR
 lateralMode Lateral.Lga = LGA
 
--- ALTSEL engaged is in capture or track
+-- capture and track are both ALTSEL
 abbrev pub verticalMode : Vertical → Mode
 verticalMode Vertical.Pitch = PITCH
 verticalMode Vertical.Vs = VS
@@ -65,7 +65,7 @@ armsLappr ArmedLateral.Neither = false
 armsLappr ArmedLateral.Nav = false
 armsLappr ArmedLateral.Lappr = true
 
--- ALTSEL is armed exactly while PITCH, VS, FLC or VGA is engaged (a bench rule). Eight modes are never armed
+-- whether x is armed: NAV, LAPPR and VAPPR as the set says; ALTSEL beside four of the vertical modes, by the bench's own rule; the other eight modes never
 unfoldable pub armed : Mode → Modes → Bool
 armed NAV m = armsNav (m .armed)
 armed LAPPR m = armsLappr (m .armed)
@@ -88,12 +88,12 @@ cleared x m = not (engaged x m) && not (armed x m)
 abbrev pub implies : Bool → Bool → Bool
 implies a b = not a || b
 
--- not both armed and engaged
+-- x is not armed while it is engaged
 unfoldable pub once : Mode → Modes → Bool
 once x m = not (armed x m && engaged x m)
 
--- The third demand's rules on armed and approach modes, and VAPPR is cleared when LAPPR is. (That at most one of NAV and LAPPR is armed, and when ALTSEL is,
--- is so in every representable set)
+-- Demand 3, and 'Mode sets': no mode is armed while it is engaged; an engaged VAPPR has LAPPR engaged beside it; with LAPPR armed VAPPR is armed; and without LAPPR,
+-- armed or engaged, there is no VAPPR. (NAV and LAPPR are not both armed in any representable set, and ALTSEL's arming is as the paper has it in all of them)
 unfoldable pub coherent : Modes → Bool
 coherent m =
     once NAV m && once LAPPR m && once ALTSEL m && once VAPPR m
@@ -138,7 +138,7 @@ isLateral x = ltb (place x) 5
 abbrev pub beside : Mode → Modes → Mode
 beside x m = cond (isLateral x) (lateralMode (m .lateral)) (verticalMode (m .vertical))
 
--- where nothing lateral is left, ROLL engages; where nothing vertical is left, PITCH
+-- what engages in the place of x where x, engaged, is dropped: ROLL, or PITCH on the vertical axis
 abbrev pub basic : Mode → Mode
 basic x = cond (isLateral x) ROLL PITCH
 
@@ -154,18 +154,18 @@ arm x m = cond (is x NAV) (withArmed ArmedLateral.Nav m) (cond (is x LAPPR) (wit
 unfoldable pub drop : Mode → Modes → Modes
 drop x m = cond (engaged x m) (put (basic x) (disarm x m)) (disarm x m)
 
--- clearing LAPPR, armed or engaged, clears VAPPR too
+-- x is dropped, and VAPPR with it where x is LAPPR
 unfoldable pub clear : Mode → Modes → Modes
 clear x m = cond (is x LAPPR) (drop VAPPR (drop LAPPR m)) (drop x m)
 
--- engaging a mode ends its own arming and clears the mode that it replaces. So another vertical mode clears VAPPR if that was engaged, and leaves it armed if
--- it was armed
+-- x is disarmed, and what else was engaged on its axis is cleared to make room for it. So a vertical mode other than VAPPR ends an engaged VAPPR and does not touch
+-- an armed one
 unfoldable pub engage : Mode → Modes → Modes
 engage x m = cond (engaged x m) (disarm x m) (put x (clear (beside x m) (disarm x m)))
 
 -- ---- sets, which may be Off
 
--- what coming on gives
+-- the set of a side that comes on
 abbrev pub basicModes : Modes
 basicModes = record { lateral = Lateral.Roll; armed = ArmedLateral.Neither; vertical = Vertical.Pitch; «vappr_armed» = false }
 

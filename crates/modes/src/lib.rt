@@ -11,7 +11,7 @@ pub enum Lateral {
     Lga,
 }
 
-// The engaged vertical mode. ALTSEL engaged is in capture or track.
+// The engaged vertical mode. Capture and track are both ALTSEL.
 pub enum Vertical {
     Pitch,
     Vs,

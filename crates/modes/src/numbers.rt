@@ -4,10 +4,10 @@ use crate::Lateral;
 use crate::ModeSet;
 use crate::Vertical;
 ghost use mathlib.Core.Path.{_≡_};
-ghost use Prim.Native.Nat.{_+_, _≤_};
 ghost use Rattle.modes.specs.Numbers.{lateralNumber, verticalNumber, lateralLaw, verticalLaw, armedSum, modeLamps, worth};
 ghost use Rattle.modes.specs.Sets.{armsNav, armsLappr};
-ghost use Rattle.modes.specs.Private.{Added};
+ghost use Rattle.modes.specs.Every.{armedNumber};
+ghost use Rattle.modes.specs.Private.{altselNumber, lateralLamp, armedLamp, verticalLamp};
 
 pub fn lateral_number(l: Lateral) -> u32
     ensures { λ res. ⌜ res ≡ lateralNumber l ⌝ }
@@ -89,15 +89,34 @@ pub fn worth(lit: bool, n: u32) -> u32
     if lit { n } else { 0 }
 }
 
-// A sum and one part more. No sum here passes 63.
-fn add_part(sum: u32, lit: bool, n: u32) -> u32
-    requires { ⌜ sum + n ≤ 63 ⌝ }
-    ensures { λ res. ⌜ Added sum lit n res ⌝ }
+// What the armed lateral mode adds to the armed sum: 1 for NAV, 2 for LAPPR.
+pub fn armed_number(a: ArmedLateral) -> u32
+    ensures { λ res. ⌜ res ≡ armedNumber a ⌝ }
 {
-    sum + worth(lit, n)
+    match a {
+        ArmedLateral::Neither => 0,
+        ArmedLateral::Nav => 1,
+        ArmedLateral::Lappr => 2,
+    }
 }
 
-// The armed modes as a sum: NAV 1, LAPPR 2, ALTSEL 4 (beside vertical laws 1 to 3 and 8), VAPPR 8.
+// What ALTSEL adds, which is armed beside PITCH, VS, FLC and VGA: 4.
+fn altsel_number(v: Vertical) -> u32
+    ensures { λ res. ⌜ res ≡ altselNumber v ⌝ }
+{
+    match v {
+        Vertical::Pitch => 4,
+        Vertical::Vs => 4,
+        Vertical::Flc => 4,
+        Vertical::Alt => 0,
+        Vertical::AltselCapture => 0,
+        Vertical::AltselTrack => 0,
+        Vertical::Vappr => 0,
+        Vertical::Vga => 4,
+    }
+}
+
+// The armed modes as a sum: 1 for NAV, 2 for LAPPR, 4 for ALTSEL, 8 for VAPPR. No two share a bit.
 pub fn armed_sum(s: ModeSet) -> u32
     ensures { λ res. ⌜ res ≡ armedSum s ⌝ }
 {
@@ -106,18 +125,52 @@ pub fn armed_sum(s: ModeSet) -> u32
         ModeSet::On(m) => {
             let a = m.armed;
             let v = m.vertical;
-            let law = vertical_number(v);
-            let lateral = add_part(add_part(0, arms_nav(a), 1), arms_lappr(a), 2);
-            add_part(
-                add_part(lateral, (law <= 3) | (law == 8), 4),
-                m.vappr_armed,
-                8,
-            )
+            armed_number(a) | altsel_number(v) | worth(m.vappr_armed, 8)
         }
     }
 }
 
-// The mode lamps as a sum: HDG 1, NAV 2, APPR 4, VS 8, FLC 16, ALT 32.
+// The lamp of the engaged lateral mode.
+fn lateral_lamp(l: Lateral) -> u32
+    ensures { λ res. ⌜ res ≡ lateralLamp l ⌝ }
+{
+    match l {
+        Lateral::Roll => 0,
+        Lateral::Hdg => 1,
+        Lateral::Nav => 2,
+        Lateral::Lappr => 4,
+        Lateral::Lga => 0,
+    }
+}
+
+// The lamp of the armed lateral mode: the same ones, so that a mode's lamp is one bit.
+fn armed_lamp(a: ArmedLateral) -> u32
+    ensures { λ res. ⌜ res ≡ armedLamp a ⌝ }
+{
+    match a {
+        ArmedLateral::Neither => 0,
+        ArmedLateral::Nav => 2,
+        ArmedLateral::Lappr => 4,
+    }
+}
+
+// The lamp of the engaged vertical mode.
+fn vertical_lamp(v: Vertical) -> u32
+    ensures { λ res. ⌜ res ≡ verticalLamp v ⌝ }
+{
+    match v {
+        Vertical::Pitch => 0,
+        Vertical::Vs => 8,
+        Vertical::Flc => 16,
+        Vertical::Alt => 32,
+        Vertical::AltselCapture => 0,
+        Vertical::AltselTrack => 0,
+        Vertical::Vappr => 0,
+        Vertical::Vga => 0,
+    }
+}
+
+// The mode lamps as a sum of bits: HDG is the lowest, then NAV, APPR, VS, FLC and ALT.
 pub fn mode_lamps(s: ModeSet) -> u32
     ensures { λ res. ⌜ res ≡ modeLamps s ⌝ }
 {
@@ -127,16 +180,7 @@ pub fn mode_lamps(s: ModeSet) -> u32
             let l = m.lateral;
             let a = m.armed;
             let v = m.vertical;
-            let lateral = lateral_number(l);
-            let nav = (lateral == 3) | arms_nav(a);
-            let appr = (lateral == 4) | arms_lappr(a);
-            let switches = add_part(add_part(add_part(0, lateral == 2, 1), nav, 2), appr, 4);
-            let law = vertical_number(v);
-            add_part(
-                add_part(add_part(switches, law == 2, 8), law == 3, 16),
-                law == 4,
-                32,
-            )
+            lateral_lamp(l) | armed_lamp(a) | vertical_lamp(v)
         }
     }
 }

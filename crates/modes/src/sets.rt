@@ -6,13 +6,13 @@ use crate::Modes;
 use crate::Vertical;
 use crate::numbers::arms_lappr;
 use crate::numbers::arms_nav;
-use crate::numbers::lateral_number;
-use crate::numbers::vertical_number;
+use crate::numbers::lateral_law;
+use crate::numbers::vertical_law;
 ghost use mathlib.Core.Path.{_≡_};
-ghost use Rattle.modes.specs.Sets.{NAV, LAPPR, basicModes, coherent, coherentSet, selectedIn};
-ghost use Rattle.modes.specs.Private.{vapprAgrees, armedAgrees};
+ghost use Rattle.modes.specs.Sets.{HDG, NAV, LAPPR, VS, FLC, ALT, basicModes, coherent, coherentSet, engagedIn, selectedIn};
+ghost use Rattle.modes.specs.Private.{isNav, isLappr, isVappr, vapprAgrees, armedAgrees};
 
-// ROLL and PITCH with no mode armed but ALTSEL: what coming on gives.
+// ROLL and PITCH with no mode armed but ALTSEL: the set of a side that comes on.
 pub fn basic_modes() -> Modes
     ensures { λ res. ⌜ res ≡ basicModes ⌝ }
 {
@@ -21,6 +21,45 @@ pub fn basic_modes() -> Modes
         armed: ArmedLateral::Neither,
         vertical: Vertical::Pitch,
         vappr_armed: false,
+    }
+}
+
+fn is_nav(l: Lateral) -> bool
+    ensures { λ res. ⌜ res ≡ isNav l ⌝ }
+{
+    match l {
+        Lateral::Roll => false,
+        Lateral::Hdg => false,
+        Lateral::Nav => true,
+        Lateral::Lappr => false,
+        Lateral::Lga => false,
+    }
+}
+
+fn is_lappr(l: Lateral) -> bool
+    ensures { λ res. ⌜ res ≡ isLappr l ⌝ }
+{
+    match l {
+        Lateral::Roll => false,
+        Lateral::Hdg => false,
+        Lateral::Nav => false,
+        Lateral::Lappr => true,
+        Lateral::Lga => false,
+    }
+}
+
+fn is_vappr(v: Vertical) -> bool
+    ensures { λ res. ⌜ res ≡ isVappr v ⌝ }
+{
+    match v {
+        Vertical::Pitch => false,
+        Vertical::Vs => false,
+        Vertical::Flc => false,
+        Vertical::Alt => false,
+        Vertical::AltselCapture => false,
+        Vertical::AltselTrack => false,
+        Vertical::Vappr => true,
+        Vertical::Vga => false,
     }
 }
 
@@ -50,9 +89,7 @@ pub fn is_coherent(m: Modes) -> bool
     let l = m.lateral;
     let a = m.armed;
     let v = m.vertical;
-    let lateral = lateral_number(l);
-    let vertical = vertical_number(v);
-    armed_agrees(a, lateral == 3, lateral == 4, vertical == 7, m.vappr_armed)
+    armed_agrees(a, is_nav(l), is_lappr(l), is_vappr(v), m.vappr_armed)
 }
 
 // Whether a set is coherent; Off is.
@@ -74,7 +111,7 @@ pub fn selects_nav(s: ModeSet) -> bool
         ModeSet::On(m) => {
             let l = m.lateral;
             let a = m.armed;
-            (lateral_number(l) == 3) | arms_nav(a)
+            is_nav(l) | arms_nav(a)
         }
     }
 }
@@ -88,7 +125,47 @@ pub fn selects_lappr(s: ModeSet) -> bool
         ModeSet::On(m) => {
             let l = m.lateral;
             let a = m.armed;
-            (lateral_number(l) == 4) | arms_lappr(a)
+            is_lappr(l) | arms_lappr(a)
         }
+    }
+}
+
+pub fn engages_hdg(s: ModeSet) -> bool
+    ensures { λ res. ⌜ res ≡ engagedIn HDG s ⌝ }
+{
+    let law = lateral_law(s);
+    match law {
+        2 => true,
+        _ => false,
+    }
+}
+
+pub fn engages_vs(s: ModeSet) -> bool
+    ensures { λ res. ⌜ res ≡ engagedIn VS s ⌝ }
+{
+    let law = vertical_law(s);
+    match law {
+        2 => true,
+        _ => false,
+    }
+}
+
+pub fn engages_flc(s: ModeSet) -> bool
+    ensures { λ res. ⌜ res ≡ engagedIn FLC s ⌝ }
+{
+    let law = vertical_law(s);
+    match law {
+        3 => true,
+        _ => false,
+    }
+}
+
+pub fn engages_alt(s: ModeSet) -> bool
+    ensures { λ res. ⌜ res ≡ engagedIn ALT s ⌝ }
+{
+    let law = vertical_law(s);
+    match law {
+        4 => true,
+        _ => false,
     }
 }

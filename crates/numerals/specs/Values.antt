@@ -20,7 +20,7 @@ nameOf w =
     (cond (sameBytes w (45 ∷ 105 ∷ 110 ∷ 102 ∷ [])) (Is (inf true))
     Wrong))
 
--- ---- a bit pattern: '0x' and 16 hexadecimal digits
+-- ---- a bit pattern: 16 digits of base 16 behind '0x'
 
 abbrev pub isPattern : List ℕ → Bool
 isPattern w = sameBytes (take 2 w) (48 ∷ 120 ∷ []) && (eqb (length (drop 2 w)) 16 && allDigits 16 (drop 2 w))

@@ -178,7 +178,7 @@ fn name(w: &[u8]) -> Value
     Value::Wrong
 }
 
-// A float by its bit pattern: '0x' and 16 hexadecimal digits.
+// A float by its bit pattern: 16 digits of base 16 behind '0x'.
 fn pattern(w: &[u8]) -> Value
     ensures { λ res. ⌜ res ≡ patternOf (now (w .entry)) ⌝ }
 {

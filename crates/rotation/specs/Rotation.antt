@@ -9,7 +9,7 @@ abbrev pub modOf : ℤ → ℕ → ℕ
 modOf (pos n) m = n % m
 modOf (negsuc n) m = m - suc (n % m)
 
--- The rotation r: new minus old modulo 256, taken from -128 to 127. Moved up by 128, those are the remainders 0 to 255
+-- The rotation from old to new: new - old, moved by a multiple of 256 into the range -128 to 127. With 128 added it is a remainder, 0 to 255
 abbrev pub rotationOf : ℕ → ℕ → ℤ
 rotationOf old new = pos (modOf (pos new -ℤ pos old +ℤ pos 128) 256) -ℤ pos 128
 

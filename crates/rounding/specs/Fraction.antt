@@ -1,4 +1,4 @@
--- The natural number nearest to a fraction, a tie to the even one.
+-- The natural number nearest to a fraction; of two that are equally near, the even one.
 use mathlib.Core.Path.{_≡_}
 use Prim.Native.Nat.{ℕ, _+_, _*_, _%_, _≤_}
 

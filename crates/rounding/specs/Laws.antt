@@ -15,7 +15,7 @@ use Rattle.rounding.specs.Fraction.{IsNearest}
 pub record WholeLaws : Type 0 where
   -- The magnitude is within a half of the exact value, and even at a tie.
   pub magnitude-nearest : (m : ℕ) (e : ℤ) → IsNearest (magnitudeOf m e) (m * up e) (down e)
-  -- No other number is, so the definition says exactly 'the nearest, a tie to the even one'.
+  -- No other number is, so the definition says just what document 01, 'Readings', asks for.
   pub magnitude-only : (m : ℕ) (e : ℤ) (q : ℕ) → IsNearest q (m * up e) (down e) → q ≡ magnitudeOf m e
   -- A float that is a whole number has that number as its whole value: by its size, and with a sign,
   pub whole-exact : (s : Bool) (m : ℕ) (e : ℤ) (n : ℕ) → m * up e ≡ n * down e → wholeOf (fin s m e) ≡ inAnswer (signedOf s n)

@@ -1,4 +1,4 @@
--- The whole value of a float. Document 01, 'Readings': the nearest integer, a tie to the even one, of the exact binary value.
+-- The whole value of a float: the integer nearest to its exact value; of two that are equally near, the even one. Document 01, 'Readings'.
 -- `specs/Laws.antt` states that these definitions say so.
 use Prim.Native.Nat.{ℕ, _*_}
 use mathlib.Core.Bool.{Bool, true, false, _&&_, cond}
@@ -9,7 +9,7 @@ use lib.Ieee.Nearest.{closest}
 use Rattle.rounding.specs.declared.Whole.{Whole}
 use Rattle.rounding.specs.declared.Whole.the-variants.{NotFinite, Beyond, Value}
 
--- The natural number nearest to m * 2 ^ e, a tie to the even one (document 01, 'Readings'). 2 ^ e is the fraction up e / down e.
+-- The natural number nearest to m * 2 ^ e, of two such the even one (document 01, 'Readings'). 2 ^ e is the fraction up e / down e.
 abbrev pub magnitudeOf : ℕ → ℤ → ℕ
 magnitudeOf m e = closest (m * up e) (down e)
 

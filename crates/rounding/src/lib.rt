@@ -1,4 +1,4 @@
-// The whole value of an f64: the nearest integer, a tie to the even one, of its exact binary value.
+// The whole value of an f64: the integer nearest to its exact value, of two such the even one.
 ghost use mathlib.Core.Path.{_≡_};
 ghost use Prim.Native.Nat.{_^_, _<_, _≤_};
 ghost use lib.Ieee.{ofBits, binary64};
@@ -8,7 +8,7 @@ ghost use Rattle.rounding.specs.Cut.{dropOne, cutOf};
 
 // What a float rounds to.
 pub enum Whole {
-    // Infinity or not a number.
+    // An infinity, or a NaN.
     NotFinite,
     // Finite, and the whole value is outside -2147483648 to 2147483647.
     Beyond,
@@ -55,7 +55,7 @@ fn drop_digits(digits: u64, places: u64) -> Cut
     }
 }
 
-// digits / 2^places to the nearest whole number, a tie to the even one.
+// The whole number nearest to digits / 2^places, of two such the even one.
 // The bound, 2^53, is that of a float's digits: it keeps the sums from wrapping.
 fn nearest(digits: u64, places: u64) -> u64
     requires { ⌜ digits < 9007199254740992 ⌝ }

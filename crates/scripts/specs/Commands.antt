@@ -155,7 +155,7 @@ abbrev pub lateralBy : ℕ → Lateral
 lateralBy n =
     cond (eqb n 1) Lateral.Roll (cond (eqb n 2) Lateral.Hdg (cond (eqb n 3) Lateral.Nav (cond (eqb n 4) Lateral.Lappr Lateral.Lga)))
 
--- 0 none, 1 NAV, 2 LAPPR
+-- 0 arms nothing, 1 NAV and any other number LAPPR
 abbrev pub armedBy : ℕ → ArmedLateral
 armedBy n = cond (eqb n 0) ArmedLateral.Neither (cond (eqb n 1) ArmedLateral.Nav ArmedLateral.Lappr)
 

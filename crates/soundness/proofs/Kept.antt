@@ -12,7 +12,7 @@ use Rattle.modes.specs.declared.Modes.{Modes}
 use Rattle.modes.specs.declared.ModeSet.{ModeSet}
 use Rattle.modes.specs.Finite.{Finite, every, all}
 use Rattle.modes.specs.Numbers.{lateralNumber, verticalNumber, lateralLaw, verticalLaw}
-use Rattle.modes.specs.Events.{eventAt}
+use Rattle.modes.specs.Events.{isNone, eventAt}
 use Rattle.modes.proofs.Finite.{at, both-left, both-right}
 use Rattle.modes.proofs.Every.{laterals, verticals}
 use Rattle.bench.specs.declared.Bench.{Bench}
@@ -21,8 +21,8 @@ use Rattle.bench.specs.Ranges.{referenceRange}
 use Rattle.bench.specs.Readings.{wholeReading, refusalOf}
 use Rattle.bench.specs.Holds.{startChannel, powerOn}
 use Rattle.bench.specs.Sound.{referencesSound, channelSound, readingsSound, sound}
-use Rattle.steps.specs.Steps.{threeSteps}
-use Rattle.calls.specs.Calls.{Call, event, turn, reading, send, refresh, display, ownRefusal, refusal, acted, done, next}
+use Rattle.steps.specs.Steps.{threeSteps, acted}
+use Rattle.calls.specs.Calls.{Call, event, turn, reading, send, refresh, display, ownRefusal, refusal, done, next}
 use Rattle.soundness.specs.Kept.{KeepsSound, LawsInRange}
 use Rattle.soundness.proofs.Kept.Parts.{by-cond, SoundIn, parts, whole}
 use Rattle.soundness.proofs.Kept.Changes.{three-sound, turned-sound, received-sound, sent-sound, refreshed-sound}
@@ -41,8 +41,8 @@ power-on-sound = refl
 done-sound : (c : Call) (b : Bench) → eqb (ownRefusal c) 0 ≡ true → SoundIn b → SoundIn (done c b)
 unfolding acted
 done-sound (event word) b e h =
-    let n = trailingZeros 32 word in
-    by-cond SoundIn (eqb n 32) b (threeSteps (eventAt n) b) (λ e. h) (λ e. three-sound (eventAt n) b h)
+    let x = eventAt (trailingZeros 32 word) in
+    by-cond SoundIn (isNone x) b (threeSteps x b) (λ e. h) (λ e. three-sound x b h)
 done-sound (turn knob n) b e h = turned-sound knob n b h
 done-sound (reading r) b e h = received-sound r b e h
 done-sound (send s) b e h = sent-sound s b h

@@ -1,4 +1,4 @@
--- The event that a word names. Document 01, 'Event words': of the bits set, the lowest number is acted on. `trailingZeros 32 w` is that number, and 32 where no bit is set. Assumes nothing.
+-- The event that a word names: its lowest set bit. Document 01, 'Event words'. `trailingZeros 32 w` is that bit's number, and 32 where none is set. Assumes nothing.
 use mathlib.Core.Path.{_≡_, refl}
 use mathlib.Core.Bool.{Bool, true, false}
 use Prim.Native.Nat.{ℕ, zero, suc, _+_, _-_, _/_, _%_, _^_, _<_, _≤_}

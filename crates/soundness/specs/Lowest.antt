@@ -1,4 +1,4 @@
--- What the theorem on event words says. Document 01, 'Event words': of the bits set, the lowest number is acted on.
+-- What the theorem on event words says: which bit of a word decides. Document 01, 'Event words'.
 use mathlib.Core.Path.{_≡_}
 use Prim.Native.Nat.{ℕ, zero, suc, _/_, _%_, _<_}
 use lib.Count.{trailingZeros}

@@ -25,20 +25,22 @@ other-way : {A : Type 0} (t : Bool) (x y : A) → cond t x y ≡ cond (not t) y 
 other-way true x y = refl
 other-way false x y = refl
 
-either-way : {A : Type 0} (t : Bool) (x : A) → cond t x x ≡ x
-either-way true x = refl
-either-way false x = refl
-
 -- a change, made where a test holds
 abbrev when : {A : Type 0} → Bool → (A → A) → A → A
 when t f x = cond t (f x) x
 
+-- a change, made where law k was not shown before
+abbrev unless : {A : Type 0} → ℕ → ℕ → (A → A) → A → A
+unless k was f x = cond (eqb was k) x (f x)
+
 module _ {A : Type 0} (was : ℕ) (f : A → A) where
   -- one change, made where law 1 appears
-  one-law : (law : ℕ) (x : A) → cond (eqb was law) x (cond (eqb law 1) (f x) x) ≡ when (appears 1 was law) f x
-  one-law zero x = either-way (eqb was 0) x
-  one-law (suc zero) x = other-way (eqb was 1) x (f x)
-  one-law (suc (suc n)) x = rw (ne-eqb (suc (suc n)) 1 (λ e. omega arith)) (either-way (eqb was (suc (suc n))) x)
+  one-law : (law : ℕ) (x : A) → cond (eqb law 1) (unless 1 was f x) x ≡ when (appears 1 was law) f x
+  one-law law x = go (eqb law 1)
+    where
+      go : (t : Bool) → cond t (unless 1 was f x) x ≡ when (t && not (eqb was 1)) f x
+      go true = other-way (eqb was 1) x (f x)
+      go false = refl
 
 module _ {A : Type 0} (was : ℕ) (f g h k : A → A) where
   abbrev four : ℕ → A → A
@@ -46,15 +48,15 @@ module _ {A : Type 0} (was : ℕ) (f g h k : A → A) where
 
   -- four changes, of which that of the law that appears is made
   four-laws : (law : ℕ) (x : A) →
-      cond (eqb was law) x (cond (eqb law 1) (f x) (cond (eqb law 2) (g x) (cond (eqb law 3) (h x) (cond (eqb law 4) (k x) x)))) ≡ four law x
-  four-laws zero x = either-way (eqb was 0) x
+      cond (eqb law 1) (unless 1 was f x) (cond (eqb law 2) (unless 2 was g x) (cond (eqb law 3) (unless 3 was h x) (cond (eqb law 4) (unless 4 was k x) x))) ≡ four law x
+  four-laws zero x = refl
   four-laws (suc zero) x = other-way (eqb was 1) x (f x)
   four-laws (suc (suc zero)) x = other-way (eqb was 2) x (g x)
   four-laws (suc (suc (suc zero))) x = other-way (eqb was 3) x (h x)
   four-laws (suc (suc (suc (suc zero)))) x = other-way (eqb was 4) x (k x)
   four-laws (suc (suc (suc (suc (suc n))))) x =
       let law = suc (suc (suc (suc (suc n)))) in
-      rw (ne-eqb law 1 (λ e. omega arith), ne-eqb law 2 (λ e. omega arith), ne-eqb law 3 (λ e. omega arith), ne-eqb law 4 (λ e. omega arith)) (either-way (eqb was law) x)
+      rw (ne-eqb law 1 (λ e. omega arith), ne-eqb law 2 (λ e. omega arith), ne-eqb law 3 (λ e. omega arith), ne-eqb law 4 (λ e. omega arith))
 
 -- entry by the laws is entry by the modes
 module _ (w : Readings) (before after : ModeSet) where

@@ -13,7 +13,7 @@ use Rattle.bench.specs.Ranges.{clamped, referenceRange}
 use Rattle.bench.specs.Readings.{wholeNumber}
 use Rattle.bench.specs.Sides.{side}
 
--- engaged after a call, and not engaged on that same side before it
+-- x is engaged in a side's new set and was not in its old one
 abbrev pub newly : Mode → ModeSet → ModeSet → Bool
 newly x before after = engagedIn x after && not (engagedIn x before)
 

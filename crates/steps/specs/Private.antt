@@ -8,15 +8,18 @@ use Rattle.bench.specs.declared.Reading.{Reading}
 use Rattle.bench.specs.Parts.{atHeld, atVerticalSpeed, atIas, atRoll, atPitch}
 use Rattle.steps.specs.Entry.{loaded}
 
+-- what law n loads, at a place: nothing where it was the law before
+abbrev pub newLaw : ℕ → ℕ → ℕ → Reading → References → References
+newLaw n was place reading r = cond (eqb was n) r (loaded place reading r)
+
 -- entry by the lateral law before and after
 abbrev pub lateralEntry : Readings → ℕ → ℕ → References → References
-lateralEntry w was law r = cond (eqb was law) r (cond (eqb law 1) (loaded atRoll (Reading.Roll (w .roll)) r) r)
+lateralEntry w was law r = cond (eqb law 1) (newLaw 1 was atRoll (Reading.Roll (w .roll)) r) r
 
 -- entry by the vertical law before and after
 abbrev pub verticalEntry : Readings → ℕ → ℕ → References → References
 verticalEntry w was law r =
-    cond (eqb was law) r
-    (cond (eqb law 1) (loaded atPitch (Reading.Pitch (w .pitch)) r)
-    (cond (eqb law 2) (loaded atVerticalSpeed (Reading.VerticalSpeed (w .«vertical_speed»)) r)
-    (cond (eqb law 3) (loaded atIas (Reading.Airspeed (w .airspeed)) r)
-    (cond (eqb law 4) (loaded atHeld (Reading.Altitude (w .altitude)) r) r))))
+    cond (eqb law 1) (newLaw 1 was atPitch (Reading.Pitch (w .pitch)) r)
+    (cond (eqb law 2) (newLaw 2 was atVerticalSpeed (Reading.VerticalSpeed (w .«vertical_speed»)) r)
+    (cond (eqb law 3) (newLaw 3 was atIas (Reading.Airspeed (w .airspeed)) r)
+    (cond (eqb law 4) (newLaw 4 was atHeld (Reading.Altitude (w .altitude)) r) r)))

@@ -1,10 +1,10 @@
--- The three steps of a call with an event. Document 01, 'Event words'. A step is written for a side that is given; `acts` of bench/specs/Sides.antt says which sides act.
+-- The three steps of an event. Document 01, 'Event words'. A step is written for a side that is given; `acts` of bench/specs/Sides.antt says which sides act.
 use mathlib.Core.Bool.{Bool, true, _&&_, _||_, cond}
 use Prim.Native.Nat.{ℕ}
 use Rattle.modes.specs.declared.ModeSet.{ModeSet}
 use Rattle.modes.specs.declared.Event.{Event}
 use Rattle.modes.specs.Sets.{basicModes, inOn}
-use Rattle.modes.specs.Events.{lineOf}
+use Rattle.modes.specs.Events.{isNone, lineOf}
 use Rattle.bench.specs.declared.Shared.{Shared}
 use Rattle.bench.specs.declared.Bench.{Bench}
 use Rattle.bench.specs.Parts.{withShared, withBox, withFd}
@@ -16,7 +16,7 @@ use Rattle.steps.specs.Entry.{settled}
 unfoldable pub sharedAfter : Event → Shared → Shared
 sharedAfter e s = record { pf = cond (lineOf e .transfers) (otherSide (s .pf)) (s .pf); ap = lineOf e .ap (s .ap); overspeed = lineOf e .flag (s .overspeed) }
 
--- a pressed flight director toggles, but stays On while the flag is set
+-- a pressed flight director goes On from Off, and from On to Off unless the flag holds it
 abbrev pub toggledFd : Bool → Bool → Bool
 toggledFd flag fd = cond fd flag true
 
@@ -62,3 +62,8 @@ laterSteps e flag s b = settled (thirdStep e flag (secondStep s b)) s b
 -- the sides that act after the first step
 unfoldable pub threeSteps : Event → Bench → Bench
 threeSteps e b = onActing (laterSteps e (b .shared .overspeed)) (firstStep e b)
+
+-- ---- an event, and none
+
+unfoldable pub acted : Event → Bench → Bench
+acted e b = cond (isNone e) b (threeSteps e b)

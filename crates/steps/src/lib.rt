@@ -1,4 +1,4 @@
-// The three steps of a call with an event, and entry.
+// The three steps of an event, and entry.
 use bench::Bench;
 use bench::Reading;
 use bench::Readings;
@@ -21,7 +21,7 @@ ghost use Rattle.modes.specs.Events.{lineOf};
 ghost use Rattle.bench.specs.Sides.{whereActing};
 ghost use Rattle.steps.specs.Entry.{loaded, entry, settled};
 ghost use Rattle.steps.specs.Private.{lateralEntry, verticalEntry};
-ghost use Rattle.steps.specs.Steps.{sharedAfter, toggledFd, asksFor, fdAfter, withFdAfter, firstStep, comingOn, secondStep, thirdStep, laterSteps, threeSteps};
+ghost use Rattle.steps.specs.Steps.{sharedAfter, toggledFd, asksFor, fdAfter, withFdAfter, firstStep, comingOn, secondStep, thirdStep, laterSteps, threeSteps, acted};
 
 // The references with a reading's whole value at a place, clamped to its range.
 fn load(r: References, place: u32, reading: Reading) -> References
@@ -36,11 +36,11 @@ fn load(r: References, place: u32, reading: Reading) -> References
 fn enter_lateral(w: Readings, was: u32, law: u32, r: References) -> References
     ensures { λ res. ⌜ res ≡ lateralEntry w was law r ⌝ }
 {
-    if was == law {
-        return r;
-    }
     match law {
-        1 => load(r, ROLL, Reading::Roll(w.roll)),
+        1 => match was {
+            1 => r,
+            _ => load(r, ROLL, Reading::Roll(w.roll)),
+        },
         _ => r,
     }
 }
@@ -50,14 +50,23 @@ fn enter_lateral(w: Readings, was: u32, law: u32, r: References) -> References
 fn enter_vertical(w: Readings, was: u32, law: u32, r: References) -> References
     ensures { λ res. ⌜ res ≡ verticalEntry w was law r ⌝ }
 {
-    if was == law {
-        return r;
-    }
     match law {
-        1 => load(r, PITCH, Reading::Pitch(w.pitch)),
-        2 => load(r, VERTICAL_SPEED, Reading::VerticalSpeed(w.vertical_speed)),
-        3 => load(r, IAS, Reading::Airspeed(w.airspeed)),
-        4 => load(r, HELD, Reading::Altitude(w.altitude)),
+        1 => match was {
+            1 => r,
+            _ => load(r, PITCH, Reading::Pitch(w.pitch)),
+        },
+        2 => match was {
+            2 => r,
+            _ => load(r, VERTICAL_SPEED, Reading::VerticalSpeed(w.vertical_speed)),
+        },
+        3 => match was {
+            3 => r,
+            _ => load(r, IAS, Reading::Airspeed(w.airspeed)),
+        },
+        4 => match was {
+            4 => r,
+            _ => load(r, HELD, Reading::Altitude(w.altitude)),
+        },
         _ => r,
     }
 }
@@ -145,7 +154,7 @@ fn with_fd_after(e: Event, side: u32, b: Bench, next: Bench) -> Bench
     with_box(next, side, bench::parts::with_fd(c, fd_after(e, side, b)))
 }
 
-// FD, AP, flag and PF, judged on the bench as handed in.
+// The first step: both FDs and the shared part, decided from the bench that came.
 fn first_step(e: Event, b: Bench) -> Bench
     ensures { λ res. ⌜ res ≡ firstStep e b ⌝ }
 {
@@ -201,12 +210,22 @@ fn later_steps(e: Event, flag: bool, side: u32, b: Bench) -> Bench
     }
 }
 
-// The bench after an event.
-pub fn three_steps(e: Event, b: Bench) -> Bench
+// The bench after the three steps of an event.
+fn three_steps(e: Event, b: Bench) -> Bench
     ensures { λ res. ⌜ res ≡ threeSteps e b ⌝ }
 {
     let shared = b.shared;
     let first = first_step(e, b);
     let left = later_steps(e, shared.overspeed, 0, first);
     later_steps(e, shared.overspeed, 1, left)
+}
+
+// The bench after an event; where there is none, nothing is done.
+pub fn act(e: Event, b: Bench) -> Bench
+    ensures { λ res. ⌜ res ≡ acted e b ⌝ }
+{
+    match e {
+        Event::NoEvent => b,
+        _ => three_steps(e, b),
+    }
 }

@@ -4,4 +4,4 @@ use Rattle.bench.proofs.is_valid.Statement.{statement}
 use Rattle.bench.proofs.is_valid.Tie as tie
 
 pub is-valid-spec : {M : Type 1} → statement M
-is-valid-spec = tie.close (tie.spec (λ c κs. search needs) (λ c. cc))
+is-valid-spec = tie.close (tie.spec (λ c κs. search needs) (λ c κs. search needs) (λ c. simp (c .judge .ensures, c .before .whole-reading .ensures)))

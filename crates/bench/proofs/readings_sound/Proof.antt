@@ -1,11 +1,12 @@
--- `bench::readings_sound` meets its contract: all six kinds are asked. Assumes nothing.
+-- `bench::readings_sound` meets its contract: all six kinds are asked, each with its own range. Assumes nothing.
+use Rattle.bench.specs.Readings.{refusalOf}
 use Rattle.bench.specs.Sound.{readingsSound}
 use borrow.Author.Needs.{needs}
 use Rattle.bench.proofs.readings_sound.Statement.{statement}
 use Rattle.bench.proofs.readings_sound.Tie as tie
 
 pub readings-sound-spec : {M : Type 1} → statement M
-unfolding readingsSound
+unfolding readingsSound refusalOf
 readings-sound-spec =
     tie.close (tie.spec
     (λ c κs. search needs) (λ c κs. search needs) (λ c κs. search needs) (λ c κs. search needs) (λ c κs. search needs) (λ c κs. search needs)

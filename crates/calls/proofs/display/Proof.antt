@@ -19,14 +19,14 @@ returns c =
     let at-found = c .before .before in
     let at-start = at-found .before .before in
     let h = found at-found in
-    λ i. record { refusal = h i; display = (c .blank-display .ensures ∙ if-refused _ _ _ h some (shown (at-start .args .b) (at-start .args .side)) blank) i; bench = next-refused _ _ _ h some i }
+    λ i. record { refusal = h i; display = (c .blank-display .ensures ∙ if-refused _ _ h some (shown (at-start .args .b) (at-start .args .side)) blank) i; bench = next-refused _ _ _ h some i }
 
 returns-2 : tie.Need-returns-2
 unfolding displayAnswer
 returns-2 c =
     let none = c .before .if1 .left in
     let h = found (c .before .before) in
-    λ i. record { refusal = (sym none ∙ h) i; display = (c .show .ensures ∙ if-accepted _ _ _ h none _ blank) i; bench = next-accepted _ _ _ h none refl i }
+    λ i. record { refusal = (sym none ∙ h) i; display = (c .show .ensures ∙ if-accepted _ _ h none _ blank) i; bench = next-accepted _ _ _ h none refl i }
 
 pub display-spec : {M : Type 1} → statement M
 display-spec = tie.close (tie.spec (λ c κs. search needs) (λ c κs. search needs) (λ c κs. search needs) returns (λ c κs. search needs) returns-2)

@@ -14,16 +14,17 @@ found c = simp (c .refusal-of .ensures, c .before .word-refusal .ensures)
 
 returns : tie.Need-returns
 unfolding eventAnswer
-returns c = λ i. record { refusal = found (c .before) i; event = if-refused _ _ _ (found (c .before)) (c .if1 .taken) (trailingZeros 32 (c .before .before .before .args .word)) 32 i; bench = next-refused _ _ _ (found (c .before)) (c .if1 .taken) i }
+returns c = λ i. record { refusal = found (c .before) i; event = if-refused _ _ (found (c .before)) (c .if1 .taken) (trailingZeros 32 (c .before .before .before .args .word)) 32 i; bench = next-refused _ _ _ (found (c .before)) (c .if1 .taken) i }
 
 returns-2 : tie.Need-returns-2
 unfolding eventAnswer
 returns-2 c =
-    let none = c .before .if1 .left in
-    let at-found = c .before .before in
+    let at-test = c .before .before in
+    let none = at-test .if1 .left in
+    let at-found = at-test .before in
     let h = found at-found in
     let number = trailingZeros 32 (at-found .before .before .args .word) in
-    λ i. record { refusal = (sym none ∙ h) i; event = if-accepted _ _ _ h none number 32 i; bench = next-accepted _ _ _ h none (c .act .ensures) i }
+    λ i. record { refusal = (sym none ∙ h) i; event = if-accepted _ _ h none number 32 i; bench = next-accepted _ _ _ h none {x = c .act .result} (simp (c .act .ensures, c .before .event-at .ensures)) i }
 
 pub event-spec : {M : Type 1} → statement M
-event-spec = tie.close (tie.spec (λ c κs. search needs) (λ c κs. search needs) returns (λ c κs. search needs) returns-2)
+event-spec = tie.close (tie.spec (λ c κs. search needs) (λ c κs. search needs) returns (λ c κs. search needs) (λ c κs. search needs) returns-2)

@@ -1,21 +1,21 @@
--- `calls::reading` meets its contract: a reading that its kind does not take is refused, and another is stored. Assumes nothing.
-use mathlib.Core.Path.{_≡_}
-use Rattle.calls.specs.Calls.{Call, refusal}
-use Rattle.calls.proofs.Answered.{answer-refused, answer-accepted}
+-- `calls::reading` meets its contract: the arm of a kind has the kind's range and its field. Assumes nothing.
+use Rattle.bench.specs.Readings.{refusalOf, stored}
+use Rattle.calls.specs.Private.{receivedAs}
+use Rattle.calls.specs.Calls.{refusal, received, next, answer}
 use borrow.Author.Needs.{needs}
 use Rattle.calls.proofs.reading.Statement.{statement}
 use Rattle.calls.proofs.reading.Tie as tie
 
--- the refusal is that of the call
-found : (c : tie.After-refusal-of) → let at-start = c .before .before in c .refusal-of .result ≡ refusal (at-start .args .b) (Call.reading (at-start .args .r))
-unfolding refusal
-found c = simp (c .refusal-of .ensures, c .before .reading-refusal .ensures)
-
-returns : tie.Need-returns
-returns c = answer-refused _ _ _ (found (c .before)) (c .if1 .taken)
-
-returns-2 : tie.Need-returns-2
-returns-2 c = let at-test = c .before in answer-accepted _ _ _ (found (at-test .before)) (at-test .if1 .left) (c .receive .ensures)
-
 pub reading-spec : {M : Type 1} → statement M
-reading-spec = tie.close (tie.spec (λ c κs. search needs) (λ c κs. search needs) returns (λ c κs. search needs) returns-2)
+unfolding receivedAs refusalOf stored refusal received next answer
+reading-spec =
+    tie.close
+    (tie.spec (λ c κs. search needs) (λ c. search needs) (λ c κs. search needs) (λ c. search needs) (λ c κs. search needs) (λ c. search needs)
+    (λ c κs. search needs) (λ c. search needs) (λ c κs. search needs) (λ c. search needs) (λ c κs. search needs) (λ c. search needs)
+    (λ c κs. search needs)
+    (λ c. let at-arm = c .before .before in simp (c .receive .ensures, at-arm .before .before .before .whole-reading .ensures, at-arm .r .given .1))
+    (λ c. let at-arm = c .before .before in simp (c .receive2 .ensures, at-arm .before .before .before .whole-reading .ensures, at-arm .r2 .given .1))
+    (λ c. let at-arm = c .before .before in simp (c .receive3 .ensures, at-arm .before .before .before .whole-reading .ensures, at-arm .r3 .given .1))
+    (λ c. let at-arm = c .before .before in simp (c .receive4 .ensures, at-arm .before .before .before .whole-reading .ensures, at-arm .r4 .given .1))
+    (λ c. let at-arm = c .before .before in simp (c .receive5 .ensures, at-arm .before .before .before .whole-reading .ensures, at-arm .r5 .given .1))
+    (λ c. let at-arm = c .before .before in simp (c .receive6 .ensures, at-arm .before .before .before .whole-reading .ensures, at-arm .r6 .given .1)))

@@ -1,9 +1,35 @@
--- `calls::receive` meets its contract: the reading is stored among the bench's. Assumes nothing.
-use Rattle.calls.specs.Calls.{received}
+-- `calls::receive` meets its contract: where the refusal is 0 the readings are replaced, else the bench stays. Assumes nothing.
+use mathlib.Core.Path.{_≡_, sym, _∙_}
+use mathlib.Core.Bool.{cond}
+use Rattle.bench.specs.Parts.{withReadings}
+use Rattle.bench.specs.Readings.{judged}
+use Rattle.bench.specs.Sound.{sound}
+use Rattle.calls.specs.Private.{receivedAs}
+use Rattle.calls.proofs.Answered.{if-refused, if-accepted}
 use borrow.Author.Needs.{needs}
 use Rattle.calls.proofs.receive.Statement.{statement}
 use Rattle.calls.proofs.receive.Tie as tie
 
+-- the refusal is that of a reading with this range and whole value
+found : (c : tie.After-refusal-of) →
+    let args = c .before .before .args in c .refusal-of .result ≡ cond (sound (args .b)) (judged (args .range) (args .whole)) 1
+found c = simp (c .refusal-of .ensures, c .before .judge .ensures)
+
+returns : tie.Need-returns
+unfolding receivedAs
+returns c =
+    let args = c .before .before .before .args in
+    let h = found (c .before) in
+    λ i. record { refusal = h i; bench = if-refused _ _ h (c .if1 .taken) (withReadings (args .next) (args .b)) (args .b) i }
+
+returns-2 : tie.Need-returns-2
+unfolding receivedAs
+returns-2 c =
+    let none = c .before .if1 .left in
+    let at-found = c .before .before in
+    let args = at-found .before .before .args in
+    let h = found at-found in
+    λ i. record { refusal = (sym none ∙ h) i; bench = (c .with-readings .ensures ∙ if-accepted _ _ h none _ (args .b)) i }
+
 pub receive-spec : {M : Type 1} → statement M
-unfolding received
-receive-spec = tie.close (tie.spec (λ c κs. search needs) (λ c κs. search needs) (λ c. simp (c .with-readings .ensures, c .before .store .ensures)))
+receive-spec = tie.close (tie.spec (λ c κs. search needs) (λ c κs. search needs) returns (λ c κs. search needs) returns-2)

@@ -1,5 +1,5 @@
 -- `changes::change` meets its contract: each arm does what the line of its event says, and the lines of the other events change nothing. Assumes nothing.
-use mathlib.Core.Path.{refl, _∙_}
+use mathlib.Core.Path.{refl}
 use mathlib.Core.Bool.{Bool}
 use mathlib.Core.List.{[], _∷_}
 use Rattle.modes.specs.declared.Modes.{Modes}
@@ -7,7 +7,7 @@ use Rattle.modes.specs.declared.Event.the-variants.{OverspeedBegins, GoAround, 
 use Rattle.modes.specs.declared.Event.the-variants.{AltselOnTrack, HdgSwitch, NavSwitch, ApprSwitch, VsSwitch, FlcSwitch, AltSwitch}
 use Rattle.modes.specs.Events.{lineOf}
 use Rattle.modes.proofs.Arms.{otherwise}
-use Rattle.changes.proofs.Joins.{basic-taken, gone-around, navigation-cleared}
+use Rattle.changes.proofs.Joins.{gone-around, navigation-cleared}
 use borrow.Author.Needs.{needs}
 use Rattle.changes.proofs.change.Statement.{statement}
 use Rattle.changes.proofs.change.Tie as tie
@@ -31,7 +31,7 @@ change-spec =
     (λ c. search needs) (λ c κs. search needs) (λ c. search needs) (λ c κs. search needs)
     (λ c. rw (c .before .enum-told .given .1) (c .overspeed-begins .ensures))
     (λ c. rw (c .before .before .enum-told2 .given .1, c .to-vertical .ensures, c .before .to-lateral .ensures) (gone-around _))
-    (λ c. rw (c .before .enum-told3 .given .1) (c .basic-modes .ensures ∙ basic-taken _))
+    (λ c. rw (c .before .enum-told3 .given .1) (c .take-basic .ensures))
     (λ c. rw (c .before .before .enum-told4 .given .1, c .clear-lappr .ensures, c .before .clear-nav .ensures) (navigation-cleared _))
     (λ c. rw (c .before .enum-told5 .given .1) (c .nav-captured .ensures))
     (λ c. rw (c .before .enum-told6 .given .1) (c .lappr-captured .ensures))

@@ -39,7 +39,7 @@ pub record ChannelIn (c : Channel) : Type 0 where
   pub set : coherentSet (c .set) ≡ true
   pub references : ReferencesIn (c .references)
 
--- no reading that 5 or 6 would turn away
+-- six readings, each of which would be accepted
 pub record ReadingsIn (w : Readings) : Type 0 where
   pub altitude : valid (Reading.Altitude (w .altitude)) ≡ true
   pub airspeed : valid (Reading.Airspeed (w .airspeed)) ≡ true

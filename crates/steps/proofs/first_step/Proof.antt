@@ -1,4 +1,4 @@
--- `steps::first_step` meets its contract: both flight directors and the shared part are judged on the bench as handed in. Assumes nothing.
+-- `steps::first_step` meets its contract: both flight directors and the shared part are decided from the bench that came. Assumes nothing.
 use Rattle.steps.specs.Steps.{firstStep}
 use borrow.Author.Needs.{needs}
 use Rattle.steps.proofs.first_step.Statement.{statement}

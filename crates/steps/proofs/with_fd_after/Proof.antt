@@ -1,4 +1,4 @@
--- `steps::with_fd_after` meets its contract: the channel is the side's on the bench as handed in. Assumes nothing.
+-- `steps::with_fd_after` meets its contract: the channel is the side's in the bench that came. Assumes nothing.
 use Rattle.steps.specs.Steps.{withFdAfter}
 use borrow.Author.Needs.{needs}
 use Rattle.steps.proofs.with_fd_after.Statement.{statement}

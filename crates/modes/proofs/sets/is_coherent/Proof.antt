@@ -5,7 +5,9 @@ use Rattle.modes.proofs.sets.is_coherent.Statement.{statement}
 use Rattle.modes.proofs.sets.is_coherent.Tie as tie
 
 returns : tie.Need-returns
-returns c = rw (c .armed-agrees .ensures, c .before .vertical-number .ensures, c .before .before .lateral-number .ensures) (coherent-agrees _)
+returns c =
+    let at-lappr = c .before .before in
+    rw (c .armed-agrees .ensures, c .before .is-vappr .ensures, at-lappr .is-lappr .ensures, at-lappr .before .is-nav .ensures) (coherent-agrees _)
 
 pub is-coherent-spec : {M : Type 1} → statement M
-is-coherent-spec = tie.close (tie.spec (λ c κs. search needs) (λ c κs. search needs) (λ c κs. search needs) returns)
+is-coherent-spec = tie.close (tie.spec (λ c κs. search needs) (λ c κs. search needs) (λ c κs. search needs) (λ c κs. search needs) returns)

@@ -1,8 +1,8 @@
--- `bench::feed::store` meets its contract: the field of the kind that the arm matched is replaced. Assumes nothing.
+-- `console::damage::store` meets its contract: the field of the kind that the arm matched is replaced. Assumes nothing.
 use Rattle.bench.specs.Readings.{stored}
 use borrow.Author.Needs.{needs}
-use Rattle.bench.proofs.feed.store.Statement.{statement}
-use Rattle.bench.proofs.feed.store.Tie as tie
+use Rattle.console.proofs.damage.store.Statement.{statement}
+use Rattle.console.proofs.damage.store.Tie as tie
 
 pub store-spec : {M : Type 1} → statement M
 unfolding stored
