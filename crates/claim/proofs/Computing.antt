@@ -12,10 +12,10 @@ use Rattle.bench.specs.Ranges.{referenceRange}
 use Rattle.bench.specs.Readings.{wholeReading, refusalOf, wholeNumber, stored}
 use Rattle.bench.specs.Sound.{referencesSound, channelSound, readingsSound, sound}
 use Rattle.steps.specs.Entry.{loaded, entry, enter, settled}
-use Rattle.steps.specs.Steps.{sharedAfter, asksFor, setsFd, fdAfter, withFdAfter, firstStep, isOn, secondStep, thirdStep, laterSteps, threeSteps}
+use Rattle.steps.specs.Steps.{sharedAfter, asksFor, setsFd, fdAfter, withFdAfter, firstStep, isOn, secondStep, thirdStep, laterSteps, threeSteps, acted}
 use Rattle.knobs.specs.Knobs.{counted, moved, referred, referenceMoved, pitched, wheelTurned, altitudeTurned, headingMoved, headingTurned, knobTurned, turned}
 use Rattle.calls.specs.Displays.{lamps, shown}
-use Rattle.calls.specs.Calls.{refusal, acted, received, next, answer, eventAnswer, displayAnswer}
+use Rattle.calls.specs.Calls.{refusal, received, next, answer, eventAnswer, displayAnswer}
 use Rattle.calls.specs.Sends.{sent, taken, refreshed}
 
 -- mode sets and their changes
@@ -38,7 +38,7 @@ benches = tt
 
 -- the steps of an event, and knobs
 unfoldable steps : Unit {0}
-unfolding trailingZeros loaded entry enter settled sharedAfter asksFor setsFd fdAfter withFdAfter firstStep isOn secondStep thirdStep laterSteps threeSteps
+unfolding trailingZeros loaded entry enter settled sharedAfter asksFor setsFd fdAfter withFdAfter firstStep isOn secondStep thirdStep laterSteps threeSteps acted
 steps = tt
 
 unfoldable knobs : Unit {0}
@@ -47,5 +47,5 @@ knobs = tt
 
 -- the calls
 unfoldable pub rules : Unit {0}
-unfolding sets changes parts benches steps knobs lamps shown sent taken refreshed refusal acted received next answer eventAnswer displayAnswer
+unfolding sets changes parts benches steps knobs lamps shown sent taken refreshed refusal received next answer eventAnswer displayAnswer
 rules = tt

@@ -11,7 +11,8 @@ use lib.Count.{trailingZeros}
 use Rattle.rounding.specs.declared.Whole.{Whole}
 use Rattle.modes.specs.declared.Event.{Event}
 use Rattle.modes.proofs.Finite.{every-pick}
-use Rattle.modes.specs.Events.{numbered, eventAt, lineOf}
+use Rattle.modes.proofs.Laws.{mode-laws}
+use Rattle.modes.specs.Events.{numbered, eventAt, eventNumber, isNone, lineOf}
 use Rattle.bench.specs.declared.Bench.{Bench}
 use Rattle.bench.specs.declared.ranges.Range.{Range}
 use Rattle.bench.specs.Parts.{withShared, withReadings, withBox, withFd, withSet, withReferences}
@@ -20,8 +21,8 @@ use Rattle.bench.specs.Readings.{wholeReading, judged, refusalOf}
 use Rattle.bench.specs.Sides.{otherSide, inboxOf, side, inbox, acts}
 use Rattle.bench.specs.Sound.{sound}
 use Rattle.bench.proofs.Replaced.{by-side}
-use Rattle.steps.specs.Steps.{sharedAfter, withFdAfter, firstStep, laterSteps, threeSteps}
-use Rattle.calls.specs.Calls.{Call, event, turn, reading, send, refresh, display, sideRefusal, ownRefusal, refusal, acted, received, done, next, answer, eventAnswer, displayAnswer, refusalIn, reply}
+use Rattle.steps.specs.Steps.{sharedAfter, withFdAfter, firstStep, laterSteps, threeSteps, acted}
+use Rattle.calls.specs.Calls.{Call, event, turn, reading, send, refresh, display, sideRefusal, ownRefusal, refusal, received, done, next, answer, eventAnswer, displayAnswer, refusalIn, reply}
 use Rattle.calls.specs.Sends.{sent, taken, refreshed}
 use Rattle.soundness.proofs.Kept.Parts.{by-cond}
 use Rattle.claim.specs.Lists.{accepted, transfers, refreshes, sends}
@@ -91,6 +92,12 @@ moves-pf (suc (suc (suc (suc (suc (suc n)))))) =
     rw (ne-eqb (suc (suc (suc (suc (suc (suc n)))))) 5 (λ e. omega arith))
     (not-true _ (is-true _ (every-pick (λ e. not (lineOf e .transfers)) Event.NoEvent (drop 6 numbered) tt tt n)))
 
+-- where there is no event, PF stays
+none-stays : (e : Event) → isNone e ≡ true → lineOf e .transfers ≡ false
+none-stays e t =
+    let none : e ≡ Event.NoEvent = sym (mode-laws .event-back e) ∙ ap eventAt (eqb-true (eventNumber e) 32 t) in
+    rw none (mode-laws .none-idle .transfers)
+
 -- the first step changes the shared part, and of a side its FD alone
 first-shared : (e : Event) (b : Bench) → firstStep e b .shared ≡ sharedAfter e (b .shared)
 unfolding firstStep withFdAfter withBox withShared
@@ -118,21 +125,21 @@ module _ (n : ℕ) (b : Bench) where
   unfolding sharedAfter
   three-pf = rw (later .shared, first-shared e b, moves-pf n)
 
-  acted-pf : acted n b .shared .pf ≡ cond (eqb n 5) (otherSide (b .shared .pf)) (b .shared .pf)
+  acted-pf : acted e b .shared .pf ≡ cond (eqb n 5) (otherSide (b .shared .pf)) (b .shared .pf)
   unfolding acted
   acted-pf =
-      by-cond (λ (x : Bench). x .shared .pf ≡ cond (eqb n 5) (otherSide (b .shared .pf)) (b .shared .pf)) (eqb n 32) b (threeSteps e b)
-      (λ t. let k = eqb-true n 32 t in rw (ne-eqb n 5 (λ h. omega arith))) (λ _. three-pf)
+      by-cond (λ (x : Bench). x .shared .pf ≡ cond (eqb n 5) (otherSide (b .shared .pf)) (b .shared .pf)) (isNone e) b (threeSteps e b)
+      (λ t. rw (← moves-pf n, none-stays e t)) (λ _. three-pf)
 
-  acted-inbox : (s : ℕ) → s ≤ 1 → inbox (acted n b) s ≡ inbox b s
+  acted-inbox : (s : ℕ) → s ≤ 1 → inbox (acted e b) s ≡ inbox b s
   unfolding acted
-  acted-inbox s hs = by-cond (λ (x : Bench). inbox x s ≡ inbox b s) (eqb n 32) b (threeSteps e b) (λ _. refl) (λ _. later .inboxes s hs ∙ first-inbox e b s hs)
+  acted-inbox s hs = by-cond (λ (x : Bench). inbox x s ≡ inbox b s) (isNone e) b (threeSteps e b) (λ _. refl) (λ _. later .inboxes s hs ∙ first-inbox e b s hs)
 
-  acted-passive : (s : ℕ) → s ≤ 1 → acts b s ≡ false → eqb n 5 ≡ false → Same (side (acted n b) s) (side b s)
+  acted-passive : (s : ℕ) → s ≤ 1 → acts b s ≡ false → eqb n 5 ≡ false → Same (side (acted e b) s) (side b s)
   unfolding acted acts sharedAfter
   acted-passive s hs passive t =
       let stays : firstStep e b .shared .pf ≡ b .shared .pf = rw (first-shared e b, moves-pf n, t) in
-      by-cond (λ (x : Bench). Same (side x s) (side b s)) (eqb n 32) b (threeSteps e b) (λ _. same refl)
+      by-cond (λ (x : Bench). Same (side x s) (side b s)) (isNone e) b (threeSteps e b) (λ _. same refl)
       (λ _. same-trans (same (later .side-kept s hs (ap (eqb s) stays ∙ passive))) (first-side e b s hs))
 
 -- ---- each call: PF moves at a transfer, an inbox changes at the other side's send, and a side that does not act at its refresh and at a transfer
@@ -203,7 +210,7 @@ pub sent-inbox : (s : ℕ) → s ≤ 1 → (b : Bench) → sound b ≡ true → 
 unfolding sent withBox
 sent-inbox s hs b h = by-side (λ (s : ℕ). inbox (next b (send (otherSide s))) s ≡ side b (otherSide s)) (rw (next-is b (send 1) h)) (rw (next-is b (send 0) h)) s hs
 
--- a refresh of a side that does not act takes set and references from the inbox
+-- a side that does not act has, after its refresh, the set and references that its inbox held
 pub refreshed-side : (s : ℕ) → s ≤ 1 → (b : Bench) → sound b ≡ true → acts b s ≡ false → Same (side (next b (refresh s)) s) (inbox b s)
 unfolding refreshed taken withSet withReferences
 refreshed-side s hs b h n = rw (next-is b (refresh s) h, side-accepted s hs, n) (same-trans (same (box-written s _ b (omega arith))) (record { set = refl; references = refl }))

@@ -1,4 +1,4 @@
--- Every law is reached, and the passive side's rule speaks, by computing with the rules. Assumes nothing.
+-- Every law is reached, and so are the premises of the passive side's rule, by computing with the rules. Assumes nothing.
 use mathlib.Core.Path.{_≡_, refl, ap}
 use mathlib.Core.Bool.{Bool, true, false, and-eq-true-iff}
 use mathlib.Core.Logic.{_⊎_, inl, inr}
@@ -8,7 +8,7 @@ use native.Mathlib.Omega.{arith}
 use borrow.Author.Tests.{eqb-true}
 use Rattle.calls.specs.Calls.{Call, event, turn, reading, send, refresh, display}
 use Rattle.claim.specs.Lists.{accepted, refreshes, sends, None}
-use Rattle.claim.specs.Reached.{Lateral, Vertical, Speaks, Last, Reached}
+use Rattle.claim.specs.Reached.{Lateral, Vertical, Speaks, SpeaksUnsent, Last, Reached}
 use Rattle.claim.proofs.Computing.{rules}
 
 -- ROLL, HDG, NAV, LAPPR and LGA, all on the left side
@@ -37,10 +37,9 @@ vertical (suc (suc (suc (suc (suc (suc (suc (suc zero)))))))) h k = record { cal
 vertical (suc (suc (suc (suc (suc (suc (suc (suc (suc n))))))))) h k = absurd (omega arith)
 
 -- left engages HDG and sends, right refreshes; left clears HDG and sends once more, and right still shows HDG
-speaks : Speaks
+speaks-right : Speaks 1
 unfolding rules
-speaks = record {
-  side = 1;
+speaks-right = record {
   ahead = event 16384 ∷ [];
   later = event 131072 ∷ send 2 ∷ [];
   post = event 16384 ∷ event 128 ∷ send 0 ∷ refresh 0 ∷ refresh 2 ∷ turn 0 7 ∷ display 1 ∷ [];
@@ -51,6 +50,39 @@ speaks = record {
   no-transfer = (refl, (refl, (refl, (refl, (refl, (refl, (refl, tt)))))));
   law = refl;
   at-power-on = refl;
+  other-law = refl;
+}
+
+-- after a transfer right engages HDG and sends, left refreshes; right clears HDG and sends once more, and left still shows HDG
+speaks-left : Speaks 0
+unfolding rules
+speaks-left = record {
+  ahead = event 32 ∷ event 16384 ∷ [];
+  later = send 0 ∷ [];
+  post = event 16384 ∷ send 1 ∷ [];
+  is-side = omega arith;
+  passive = λ e. omega arith;
+  last-send = (refl, tt);
+  last-refresh = (refl, (refl, tt));
+  no-transfer = (refl, (refl, tt));
+  law = refl;
+  at-power-on = refl;
+  other-law = refl;
+}
+
+-- left engages HDG and hands PF over; right never sends, and left refreshes
+speaks-unsent : SpeaksUnsent 0
+unfolding rules
+speaks-unsent = record {
+  pre = event 16384 ∷ send 0 ∷ event 32 ∷ event 128 ∷ [];
+  post = send 1 ∷ [];
+  is-side = omega arith;
+  passive = λ e. omega arith;
+  unsent = (refl, (refl, (refl, (refl, tt))));
+  last-refresh = (refl, tt);
+  no-transfer = (refl, tt);
+  law-before = refl;
+  law = refl;
   other-law = refl;
 }
 
@@ -86,7 +118,9 @@ pub reached : Reached
 reached = record {
   lateral = lateral;
   vertical = vertical;
-  speaks = speaks;
+  speaks-right = speaks-right;
+  speaks-left = speaks-left;
+  speaks-unsent = speaks-unsent;
   last-send = λ s. last (sends s) (send s) (only-send s);
   last-refresh = λ s. last (refreshes s) (refresh s) (only-refresh s);
 }

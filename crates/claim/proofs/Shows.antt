@@ -1,4 +1,4 @@
--- What a display of a sound bench shows: it keeps demand 3's rules on modes, by computing over all representable sets. Assumes nothing.
+-- What a display of a sound bench shows: it meets what `Keeps` asks for, by computing over all representable sets. Assumes nothing.
 use mathlib.Core.Path.{_≡_, refl, sym, ap, _∙_}
 use mathlib.Core.Bool.{Bool, true, false, not, false≢true, true≢false}
 use Prim.Native.Nat.{ℕ, _≤_, _/_, _%_}

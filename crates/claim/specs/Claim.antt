@@ -1,6 +1,6 @@
--- Demand 3, and document 01, 'The claim over a list of calls': one claim about a whole list of calls, in any order, with any arguments and refused calls included,
--- from power-on and from any other sound bench; and what becomes of a list from an unsound one. `after` and `replies` of Lists carry the rules out for each call in
--- turn; `accepted`, `transfers`, `refreshes`, `sends` and `pilotFlying` there go by the calls alone. Here are definitions and statements only; the proofs are in proofs/.
+-- Demand 3, and document 01, 'The claim over a list of calls': what holds after a list of calls, whatever they ask for and whether or not they are refused, from
+-- power-on and from any other sound bench; and what becomes of a list from an unsound one. `after` and `replies` of Lists apply the rules to one call after another;
+-- `accepted`, `transfers`, `refreshes`, `sends` and `pilotFlying` there go by the calls alone. Here are definitions and statements only; the proofs are in proofs/.
 use mathlib.Core.Path.{_≡_}
 use mathlib.Core.Bool.{Bool, true, false, not}
 use mathlib.Core.List.{List, [], _∷_, _++_, map}
@@ -28,11 +28,11 @@ displayFrom start cs s = displayAnswer (after start cs) s
 abbrev pub displayAfter : List Call → ℕ → DisplayAnswer
 displayAfter cs s = displayFrom powerOn cs s
 
--- a side has modes on when its set in the rules' bench is On
+-- side s has modes on after a list: the rules leave it with a set other than Off
 abbrev pub modesOn : Bench → List Call → ℕ → Bool
 modesOn start cs s = not (isOff (side (after start cs) s .set))
 
--- a mode is shown armed by its number in the armed sum: NAV 1, LAPPR 2, ALTSEL 4, VAPPR 8
+-- the armed sum of d has the part n, a power of two: 1 stands for NAV, 2 for LAPPR, 4 for ALTSEL and 8 for VAPPR
 abbrev pub Arms : ℕ → Display → Type 0
 Arms n d = d .armed / n % 2 ≡ 1
 
@@ -75,7 +75,7 @@ abbrev pub Served : List Reply → Type 0
 Served [] = Unit {0}
 Served (r ∷ more) = (refusalIn r ≡ 1 → ⊥) × Served more
 
--- what a call on an unsound bench is answered: refusal 1, with event 32 and a display of all zeros
+-- what a call on an unsound bench is answered: refusal 1, beside it 32 for an event and zeros for a display
 abbrev pub turnedAway : Call → Reply
 turnedAway (event word) = told 1 32
 turnedAway (turn knob n) = plain 1
@@ -87,9 +87,9 @@ turnedAway (display s) = shows 1 blank
 -- ---- the passive side's rule
 
 -- d shows "just the modes and references that the other side held at its last send before that refresh, or the power-on ones if there was no send". `other` is the
--- other side, `pre` are the calls ahead of the refresh, and `Unsent` says what is shown if there was no send since the start
+-- other side, `pre` are the calls ahead of the refresh, and `Unsent` is what d shows where none of them is an accepted send of `other`
 pub record ShowsSent (start : Bench) (Unsent : Display → Type 0) (other : ℕ) (pre : List Call) (d : Display) : Type 0 where
-  -- what a display of the other side would have shown just before its last accepted send: ahead are the calls before this send, later those after it
+  -- the same as the other side's display after `ahead`: its last accepted send stands between `ahead` and `later`
   pub sent : (ahead later : List Call) → pre ≡ ahead ++ (send other ∷ later) → None (sends other) later
       → SameShown d (displayFrom start ahead other .display)
   pub unsent : None (sends other) pre → Unsent d
@@ -98,13 +98,13 @@ pub record ShowsSent (start : Bench) (Unsent : Display → Type 0) (other : ℕ)
 
 -- of a list of calls from a start. `pilot` tells the pilot flying's side after a list, and `Unsent s` what side s shows if nothing was sent to it since the start
 pub record ClaimOf (start : Bench) (pilot : List Call → ℕ) (Unsent : ℕ → Display → Type 0) (cs : List Call) : Type 0 where
-  -- no call in the list is refused with 1
+  -- refusal 1 is never answered
   pub served : Served (replies start cs)
   -- the refusal of each call is that of its own arguments: 0 exactly if it is accepted in the sense of Lists
   pub refusals : map refusalIn (replies start cs) ≡ map ownRefusal cs
   -- the pilot flying's side is the one told from the calls alone
   pub pilot-side : after start cs .shared .pf ≡ pilot cs
-  -- a display of either side is accepted, and what it shows keeps demand 3's rules on modes
+  -- neither side's display is refused, and each meets what `Keeps` asks for
   pub shown : (s : ℕ) → s ≤ 1 → displayFrom start cs s .refusal ≡ 0
   pub keeps : (s : ℕ) → s ≤ 1 → Keeps (modesOn start cs s) (displayFrom start cs s .display)
   -- "A side that was passive at its last refresh, and ever since": the list is pre, a refresh of s and post; s did not have the pilot flying at that refresh; post has
@@ -115,11 +115,11 @@ pub record ClaimOf (start : Bench) (pilot : List Call → ℕ) (Unsent : ℕ →
       → None transfers post
       → ShowsSent start (Unsent s) (otherSide s) pre (displayFrom start cs s .display)
 
--- demand 3, from power-on: PF starts left, and a side to which nothing was sent shows what a display of the other side shows at power-on
+-- demand 3, from power-on: left has PF at first, and a side to which nothing was sent shows what the other side's display shows at power-on
 abbrev pub Claim : List Call → Type 0
 Claim cs = ClaimOf powerOn pilotFlying (λ s d. SameShown d (displayAfter [] (otherSide s) .display)) cs
 
--- from a bench: PF starts on the side that it names, and its inboxes stand for sends not made since
+-- from a bench: PF begins where the bench has it, and a side to which nothing was sent since shows what its inbox held at the start
 abbrev pub ClaimFrom : Bench → List Call → Type 0
 ClaimFrom start cs = ClaimOf start (pilotFrom (start .shared .pf)) (λ s d. ShowsHeld (inbox start s) d) cs
 

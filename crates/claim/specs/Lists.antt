@@ -1,5 +1,5 @@
 -- Lists of calls from a bench, by the rules, and document 01's words about them. Document 01, 'The claim over a list of calls'.
--- The words are defined from the calls alone: a call's kind and its arguments other than the bench.
+-- The words are defined from the calls alone: no bench is asked.
 use mathlib.Core.Path.{_≡_}
 use mathlib.Core.Bool.{Bool, false, _&&_, cond}
 use mathlib.Core.List.{List, [], _∷_}
@@ -10,7 +10,7 @@ use Rattle.bench.specs.declared.Bench.{Bench}
 use Rattle.bench.specs.Sides.{otherSide}
 use Rattle.calls.specs.Calls.{Call, event, turn, reading, send, refresh, display, ownRefusal, next, Reply, reply}
 
--- ---- a list of calls by the rules: each call works on the bench that the one before it handed back
+-- ---- a list of calls by the rules: the bench is handed on from call to call
 
 abbrev pub after : Bench → List Call → Bench
 after b [] = b
@@ -22,11 +22,11 @@ replies b (c ∷ cs) = reply b c ∷ replies (next b c) cs
 
 -- ---- document 01's words, from the calls alone
 
--- accepted: no condition of a refusal holds. Refusal 1 goes by the bench, and is none from a sound start: this is a part of the claim
+-- accepted: the call's own arguments give it no refusal. Refusal 1 goes by the bench, and from a sound start it never comes: this is a part of the claim
 abbrev pub accepted : Call → Bool
 accepted c = eqb (ownRefusal c) 0
 
--- accepted, and acts on event 5: the lowest bit set is 5
+-- an accepted word whose lowest set bit is 5, the transfer's
 abbrev pub transfers : Call → Bool
 transfers (event word) = accepted (event word) && eqb (trailingZeros 32 word) 5
 transfers (turn knob n) = false

@@ -87,7 +87,7 @@ eight₃ = eight₂ ++ (event 2048 ∷ [])
 abbrev pub eight₄ : List Call
 eight₄ = eight₃ ++ (event 131072 ∷ [])
 
--- 9: after the second word of case 8
+-- 9: overspeed begins on eight₂, and then VAPPR's signal comes
 abbrev pub nine₁ : List Call
 nine₁ = eight₂ ++ (event 4 ∷ [])
 
@@ -97,11 +97,11 @@ nine₂ = nine₁ ++ (event 2048 ∷ [])
 abbrev pub ten : List Call
 ten = event 0 ∷ event 1048576 ∷ []
 
--- 11: after case 6
+-- 11: six, and then a send and a refresh
 abbrev pub eleven : List Call
 eleven = six ++ (send onLeft ∷ refresh onRight ∷ [])
 
--- 12: after case 11
+-- 12: eleven and a transfer, and then a refresh too
 abbrev pub twelve₁ : List Call
 twelve₁ = eleven ++ (event 32 ∷ [])
 
@@ -111,34 +111,35 @@ twelve₂ = twelve₁ ++ (refresh onLeft ∷ [])
 -- ---- the claim
 
 pub record Sheet : Type 0 where
-  -- whole values: 12.5 is 12, 13.5 is 14, -0.5 is 0
+  -- three ties go to the even integer: 12.5 to 12, 13.5 to 14 and -0.5 to 0
   pub case1 : (wholeOf (bits 0x4029_0000_0000_0000) ≡ Whole.Value (pos 12)) × (wholeOf (bits 0x402b_0000_0000_0000) ≡ Whole.Value (pos 14))
       × (wholeOf (bits 0xbfe0_0000_0000_0000) ≡ Whole.Value (pos 0))
-  -- heading 359.25 accepted; 359.5 gives 6
+  -- a heading of 359.25 is accepted; one of 359.5 rounds to 360 and is refused with 6
   pub case2 : replies powerOn two ≡ plain 0 ∷ plain 6 ∷ []
-  -- altitude 56,000.5 accepted as 56,000; 56,001 gives 6
+  -- an altitude of 56,000.5 is accepted, since it rounds to 56,000, the end of the range; 56,001 is refused with 6
   pub case3 : (replies powerOn three ≡ plain 0 ∷ plain 6 ∷ []) × (wholeOf (bits 0x40eb_5810_0000_0000) ≡ Whole.Value (pos 56000))
-  -- counts 250 to 3: r 9; 3 to 250: -9; 0 to 128 and 128 to 0: -128
+  -- the rotation from 250 to 3 is 9, and -9 the other way; half a turn, between 0 and 128, is -128 either way
   pub case4 : (rotationOf 250 3 ≡ pos 9) × (rotationOf 3 250 ≡ negsuc 8) × (rotationOf 0 128 ≡ negsuc 127) × (rotationOf 128 0 ≡ negsuc 127)
       -- the same by turns of the heading knob: 354 and 9 is 3, 3 and -9 is 354; 0 and -128 is 232, 232 and -128 is 104
       × (map headingLeft four ≡ pos 354 ∷ pos 3 ∷ pos 354 ∷ []) × (map headingLeft fourHalf ≡ pos 232 ∷ pos 104 ∷ [])
-  -- heading 355, r 9: 4. Vertical speed 48 in VS, r 9: 50
+  -- a rotation of 9 takes heading 355 round to 4, and in VS a vertical speed of 48 to 50, the end of its range
   pub case5 : (headingLeft heading355 ≡ pos 355) × (rotationOf 251 4 ≡ pos 9) × (headingLeft (heading355 ++ (turn 3 4 ∷ [])) ≡ pos 4)
       × (laws speed48 onLeft ≡ (1, 2)) × (referencesOf speed48 onLeft .«vertical_speed» ≡ pos 48) × (rotationOf 0 9 ≡ pos 9)
       × (referencesOf (speed48 ++ (turn 0 9 ∷ [])) onLeft .«vertical_speed» ≡ pos 50)
-  -- power-on, word 16,384: event 14, laws 2 and 1, armed 4, lamps 129
+  -- word 16,384 presses HDG, event 14: HDG and PITCH (2 and 1) with ALTSEL armed (4), and the lamps HDG and PF left (129)
   pub case6 : (replies powerOn six ≡ told 0 14 ∷ []) × (laws six onLeft ≡ (2, 1)) × (shownBy six onLeft .armed ≡ 4) × (shownBy six onLeft .lamps ≡ 129)
-  -- power-on, word 16,400: event 4, laws 5 and 8, armed 4
+  -- word 16,400 has the bits 4 and 14, and go-around, 4, is done: LGA and VGA (5 and 8) with ALTSEL armed (4)
   pub case7 : (replies powerOn seven ≡ told 0 4 ∷ []) × (laws seven onLeft ≡ (5, 8)) × (shownBy seven onLeft .armed ≡ 4)
-  -- power-on, words 65,536, 1,024, 2,048: laws 1,1 armed 14; 4,1 armed 12; 4,7 armed 0. Then 131,072: 4,2 armed 4
+  -- APPR (65,536) arms LAPPR and VAPPR under ROLL and PITCH: sum 14. LAPPR is captured (1,024): law 4, sum 12. VAPPR is captured (2,048): law 7, sum 0.
+  -- VS (131,072) takes the place of VAPPR: law 2, sum 4
   pub case8 : (laws eight₁ onLeft ≡ (1, 1)) × (shownBy eight₁ onLeft .armed ≡ 14) × (laws eight₂ onLeft ≡ (4, 1)) × (shownBy eight₂ onLeft .armed ≡ 12)
       × (laws eight₃ onLeft ≡ (4, 7)) × (shownBy eight₃ onLeft .armed ≡ 0) × (laws eight₄ onLeft ≡ (4, 2)) × (shownBy eight₄ onLeft .armed ≡ 4)
-  -- word 4, then 2,048, after the second word of case 8: laws 4,3, armed 12 both times
+  -- overspeed (4) while VAPPR waits beside LAPPR engages FLC: laws 4 and 3, sum 12. VAPPR's signal (2,048) then changes neither
   pub case9 : (laws nine₁ onLeft ≡ (4, 3)) × (shownBy nine₁ onLeft .armed ≡ 12) × (laws nine₂ onLeft ≡ (4, 3)) × (shownBy nine₂ onLeft .armed ≡ 12)
-  -- word 0: accepted, 32. Word 1,048,576: 4
+  -- an empty word is accepted with answer 32; 1,048,576, which is bit 20, is refused with 4; neither changes the bench
   pub case10 : (replies powerOn ten ≡ told 0 32 ∷ told 4 32 ∷ []) × (after powerOn ten ≡ powerOn)
-  -- after case 6 right shows laws 0,0, lamps 128; send left, refresh right: 2,1, FD Off
+  -- case 6 leaves right Off (0 and 0), its one lamp PF left (128); left sends, right refreshes and shows 2 and 1, with its FD still Off
   pub case11 : (displayAfter six onRight .refusal ≡ 0) × (laws six onRight ≡ (0, 0)) × (shownBy six onRight .lamps ≡ 128)
       × (laws eleven onRight ≡ (2, 1)) × (shownBy eleven onRight .fd ≡ false)
-  -- then word 32: right 1,1, left 2,1. Refresh left: 0,0, for right never sent
+  -- a transfer (32) gives right ROLL and PITCH (1 and 1), and left keeps 2 and 1. A refresh then turns left Off (0 and 0): right has sent nothing
   pub case12 : (laws twelve₁ onRight ≡ (1, 1)) × (laws twelve₁ onLeft ≡ (2, 1)) × (displayAfter twelve₂ onLeft .refusal ≡ 0) × (laws twelve₂ onLeft ≡ (0, 0))

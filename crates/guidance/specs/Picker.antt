@@ -1,4 +1,4 @@
--- The picker of the guidance program. Document 01, 'Display': "from a bench and a side, the two law numbers of the display, or 0 and 0 with the display's refusal".
+-- The picker of the guidance program: what a side's display says of its two laws and of its refusal, and nothing more. Document 01, 'Display'.
 -- Here are definitions and the statement only; the proof is in proofs/.
 use mathlib.Core.Path.{_≡_}
 use mathlib.Core.Logic.{_↔_}
@@ -11,7 +11,7 @@ use Rattle.claim.specs.Lists.{after}
 use Rattle.claim.specs.Claim.{modesOn}
 use Rattle.guidance.specs.declared.Picked.{Picked}
 
--- the refusal and the two law numbers of the display. A refused display is all zeros, so that its laws are 0 and 0
+-- a display's refusal and its two laws, which are 0 where it is refused, as all of its numbers then are
 unfoldable pub pickedOf : Bench → ℕ → Picked
 pickedOf b s = record {
   refusal = displayAnswer b s .refusal;
@@ -27,23 +27,23 @@ pub record NoLaws (p : Picked) : Type 0 where
 -- what is picked for a side with modes on or off: laws that the aircraft model has. Document 01, 'Display' and 'The claim over a list of calls'
 pub record Picks (on : Bool) (p : Picked) : Type 0 where
   pub accepted : p .refusal ≡ 0
-  -- lateral law 0 Off, 1 ROLL, 2 HDG, 3 NAV, 4 LAPPR, 5 LGA
+  -- 0 to 5 stand for Off, ROLL, HDG, NAV, LAPPR and LGA
   pub lateral : p .lateral ≤ 5
-  -- vertical law 0 Off, 1 PITCH, 2 VS, 3 FLC, 4 ALT, 5 ALTSEL capture, 6 ALTSEL track, 7 VAPPR, 8 VGA
+  -- 0 to 8 stand for Off, PITCH, VS, FLC, ALT, ALTSEL in capture and on track, VAPPR and VGA
   pub vertical : p .vertical ≤ 8
   -- both are 0 exactly if the side is off,
   pub off : (on ≡ false) ↔ NoLaws p
   -- and of a side that is on neither is
   pub flown : on ≡ true → (1 ≤ p .lateral) × (1 ≤ p .vertical)
 
--- what holds of the picker after a list of calls from a start, in any order, with any arguments and refused calls included. It is proved of power-on and of every
--- sound bench
+-- what holds of the picker after a list of calls from a start, whatever the calls ask for and whether or not they are refused. It is proved of power-on and of
+-- every sound bench
 pub record Guides (start : Bench) (cs : List Call) : Type 0 where
   -- of either side it names laws that the aircraft model has
   pub picks : (s : ℕ) → s ≤ 1 → Picks (modesOn start cs s) (pickedOf (after start cs) s)
-  -- a side above 1 is refused with 2
+  -- a number that names no side is refused with 2
   pub no-side : (s : ℕ) → 1 < s → pickedOf (after start cs) s ≡ record { refusal = 2; lateral = 0; vertical = 0 }
 
--- of any bench and side: the laws are 0 and 0 with the display's refusal. Document 01, 'Who can be turned away'
+-- of any bench and side: where the pick is refused, both laws are 0. Document 01, 'Who can be turned away'
 abbrev pub RefusedPick : Bench → ℕ → Type 0
 RefusedPick b s = (pickedOf b s .refusal ≡ 0 → ⊥) → NoLaws (pickedOf b s)

@@ -1,10 +1,10 @@
-// The picker of the guidance program: the two laws that a side's display names. It reads only what
-// the display call promises.
+// The picker of the guidance program: the two laws that a side's display names. All that it knows
+// of the bench is what the display call promises.
 use bench::Bench;
 ghost use mathlib.Core.Path.{_≡_};
 ghost use Rattle.guidance.specs.Picker.{pickedOf};
 
-// The display's refusal, and its two law numbers: 0 and 0 if it was refused.
+// The display's refusal and its two laws, which are 0 where it is refused.
 pub struct Picked {
     pub refusal: u32,
     pub lateral: u32,

@@ -1,6 +1,7 @@
--- Demand 3 of the code, proved: every run leaves the rules' bench and gives the rules' replies. Assumes nothing.
+-- Demand 3 of the code, proved: every run leaves the rules' bench and gives the rules' replies, and a display after it shows what the rules show. Assumes nothing.
 use mathlib.Core.Path.{_≡_, refl, _∙_, ap}
 use mathlib.Core.List.{List, [], _∷_}
+use Prim.Native.Nat.{ℕ}
 use Rattle.bench.specs.declared.Bench.{Bench}
 use Rattle.bench.specs.Holds.{powerOn}
 use Rattle.bench.proofs.power_on.Met.{met as power-on-met}
@@ -15,8 +16,10 @@ use Rattle.calls.proofs.send.Met.{met as send-met}
 use Rattle.calls.proofs.refresh.Met.{met as refresh-met}
 use Rattle.calls.proofs.display.Met.{met as display-met}
 use Rattle.claim.specs.Lists.{after, replies}
+use Rattle.claim.specs.Claim.{displayFrom}
 use Rattle.claim.proofs.Claimed.{claim, claim-from, refused-from}
-use Rattle.replay.specs.Runs.{Run, stop, called-event, called-turn, called-reading, called-send, called-refresh, called-display, DemandFrom, Demand, Delivered}
+use Rattle.claim.proofs.Sheet.{sheet}
+use Rattle.replay.specs.Runs.{Run, stop, called-event, called-turn, called-reading, called-send, called-refresh, called-display, DisplayGives, DemandFrom, Demand, Delivered}
 
 -- ---- a run's bench and replies: each answer is the one that the contract gives
 
@@ -46,6 +49,10 @@ run-replies (called-refresh {cs} r e k) = replied cs r _ e (run-replies k)
 run-replies (called-display {cs} r e k) =
     ap (λ (ys : List Reply). shows (r .refusal) (r .display) ∷ ys) (run-replies k) ∙ ap (λ (t : DisplayAnswer). shows (t .refusal) (t .display) ∷ replies (t .bench) cs) e
 
+-- a display after the run is the rules' display
+shown-after : {b d : Bench} {cs : List Call} {xs : List Reply} → Run b cs d xs → (s : ℕ) (r : DisplayAnswer) → DisplayGives d s r → r ≡ displayFrom b cs s
+shown-after k s r e = e ∙ ap (λ (x : Bench). displayAnswer x s) (run-bench k)
+
 -- ---- the rules are a run
 
 run-is : (cs : List Call) (b : Bench) → Run b cs (after b cs) (replies b cs)
@@ -64,13 +71,14 @@ demand-from : (start : Bench) (cs : List Call) → DemandFrom start cs
 demand-from start cs = record {
   same-bench = λ d xs k. run-bench k;
   same-replies = λ d xs k. run-replies k;
+  same-display = λ d xs k. shown-after k;
   runs = run-is cs start;
   rules = λ h. claim-from start h cs;
   refused = λ h. refused-from start h cs;
 }
 
 demand : (cs : List Call) → Demand cs
-demand cs = record { starts = refl; starts-only = λ p e. e; from-there = demand-from powerOn cs; rules = claim cs }
+demand cs = record { starts = refl; starts-only = λ p e. e; from-there = demand-from powerOn cs; displays = λ d xs k. shown-after k; rules = claim cs }
 
 pub delivered : Delivered
 delivered = record {
@@ -83,4 +91,5 @@ delivered = record {
   display-meets = display-met;
   every-list = demand;
   every-start = demand-from;
+  sheet = sheet;
 }

@@ -28,7 +28,8 @@ use Rattle.calls.proofs.refresh.Reads as refresh-reads
 use Rattle.calls.proofs.display.Reads as display-reads
 use Rattle.calls.specs.Calls.{Call, event, turn, reading, send, refresh, display, Reply, plain, told, shows}
 use Rattle.claim.specs.Lists.{after, replies}
-use Rattle.claim.specs.Claim.{Claim, ClaimFrom, Refused}
+use Rattle.claim.specs.Claim.{displayFrom, displayAfter, Claim, ClaimFrom, Refused}
+use Rattle.claim.specs.Sheet.{Sheet}
 
 -- ---- what each entry's contract says of a result
 
@@ -55,7 +56,7 @@ DisplayGives b s r = display-reads.Learnt tt (b, (s, tt)) r (b, (s, tt))
 
 -- ---- runs
 
--- `Run b cs d xs`: the calls cs, the first on b and each later one on the bench that the one before it handed back, may leave d and answer xs
+-- `Run b cs d xs`: the calls cs, begun on b and each handing its bench to the next, may leave d and answer xs
 pub data Run : Bench → List Call → Bench → List Reply → Type 0 where
   stop : {b : Bench} → Run b [] b []
   called-event : {b d : Bench} {word : ℕ} {cs : List Call} {xs : List Reply} (r : EventAnswer) → EventGives b word r → Run (r .bench) cs d xs
@@ -78,6 +79,8 @@ pub record DemandFrom (start : Bench) (cs : List Call) : Type 0 where
   -- "After the list the bench and every answer are those of document 01's rules": of every run. Equal floats are the same float: the two zeros differ
   pub same-bench : (d : Bench) (xs : List Reply) → Run start cs d xs → d ≡ after start cs
   pub same-replies : (d : Bench) (xs : List Reply) → Run start cs d xs → xs ≡ replies start cs
+  -- whatever the code's own display of a side then answers is the rules' display of it, which the rules below are about
+  pub same-display : (d : Bench) (xs : List Reply) → Run start cs d xs → (s : ℕ) (r : DisplayAnswer) → DisplayGives d s r → r ≡ displayFrom start cs s
   -- there is such a run
   pub runs : Run start cs (after start cs) (replies start cs)
   -- "and all of the following holds"
@@ -91,9 +94,11 @@ pub record Demand (cs : List Call) : Type 0 where
   pub starts : PowerOnGives powerOn
   pub starts-only : (p : Bench) → PowerOnGives p → p ≡ powerOn
   pub from-there : DemandFrom powerOn cs
+  -- what the code's display of a side answers after a run
+  pub displays : (d : Bench) (xs : List Reply) → Run powerOn cs d xs → (s : ℕ) (r : DisplayAnswer) → DisplayGives d s r → r ≡ displayAfter cs s
   pub rules : Claim cs
 
--- the entries meet the contracts that runs go by, and every list of calls meets the demand, from power-on and from any bench
+-- the entries meet the contracts that runs go by, every list of calls meets the demand, from power-on and from any bench, and the bench sheet holds
 pub record Delivered : Type 2 where
   pub power-on-meets : {M : Type 1} → power-on-statement M
   pub event-meets : {M : Type 1} → event-statement M
@@ -104,3 +109,4 @@ pub record Delivered : Type 2 where
   pub display-meets : {M : Type 1} → display-statement M
   pub every-list : (cs : List Call) → Demand cs
   pub every-start : (start : Bench) (cs : List Call) → DemandFrom start cs
+  pub sheet : Sheet

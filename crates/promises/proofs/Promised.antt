@@ -1,0 +1,45 @@
+-- All promises, kept. Assumes nothing.
+use Rattle.rounding.proofs.Laws.{whole-laws}
+use Rattle.rounding.proofs.Sheet.{sheet-whole, edges}
+use Rattle.rotation.proofs.Laws.{rotation-laws}
+use Rattle.rotation.proofs.Sheet.{sheet-knobs}
+use Rattle.modes.proofs.Laws.{mode-laws}
+use Rattle.bench.proofs.Replaced.{part-laws}
+use Rattle.soundness.proofs.Kept.{keeps-sound, laws-in-range}
+use Rattle.soundness.proofs.Lowest.{names}
+use Rattle.claim.proofs.Reached.{reached}
+use Rattle.replay.proofs.Delivered.{delivered}
+use Rattle.replay.proofs.Coding.{coding}
+use Rattle.guidance.proofs.Picks.{guides, guides-from, refused-pick}
+use Rattle.words.proofs.Laws.{word-laws, example}
+use Rattle.numerals.proofs.Laws.{value-laws}
+use Rattle.numerals.proofs.Examples.{numbers, integers, values}
+use Rattle.scripts.proofs.Lines.{lines}
+use Rattle.promises.specs.Promises.{Promises}
+
+pub promises : Promises
+promises = record {
+  delivered = delivered;
+  reached = reached;
+  coding = coding;
+  guides = guides;
+  guides-from = guides-from;
+  refused-pick = refused-pick;
+  keeps-sound = keeps-sound;
+  laws-in-range = laws-in-range;
+  names-lowest = names;
+  mode-laws = mode-laws;
+  part-laws = part-laws;
+  whole-laws = whole-laws;
+  whole-sheet = sheet-whole;
+  whole-edges = edges;
+  rotation-laws = rotation-laws;
+  rotation-sheet = sheet-knobs;
+  word-laws = word-laws;
+  word-example = example;
+  number-examples = numbers;
+  integer-examples = integers;
+  value-examples = values;
+  value-laws = value-laws;
+  script-lines = lines;
+}

@@ -1,0 +1,60 @@
+-- Every promise of the documents that is a theorem, in one record: what no other proof needs would else be missed by nobody. Its one value is in proofs/Promised.antt,
+-- and the gate knows both by name. docs/CLAIMS.md says which sentence of the papers each field carries.
+use mathlib.Core.Path.{_≡_}
+use mathlib.Core.Bool.{true}
+use mathlib.Core.List.{List}
+use Prim.Native.Nat.{ℕ}
+use Rattle.rounding.specs.Laws.{WholeLaws}
+use Rattle.rounding.specs.Sheet.{SheetWhole, Edges}
+use Rattle.rotation.specs.Laws.{RotationLaws}
+use Rattle.rotation.specs.Sheet.{SheetKnobs}
+use Rattle.modes.specs.declared.ModeSet.{ModeSet}
+use Rattle.modes.specs.Laws.{ModeLaws}
+use Rattle.bench.specs.declared.Bench.{Bench}
+use Rattle.bench.specs.Holds.{powerOn}
+use Rattle.bench.specs.Laws.{PartLaws}
+use Rattle.bench.specs.Sound.{sound}
+use Rattle.calls.specs.Calls.{Call}
+use Rattle.soundness.specs.Kept.{KeepsSound, LawsInRange}
+use Rattle.soundness.specs.Lowest.{NamesLowest}
+use Rattle.claim.specs.Reached.{Reached}
+use Rattle.replay.specs.Runs.{Delivered}
+use Rattle.replay.specs.Coded.{Coding}
+use Rattle.guidance.specs.Picker.{Guides, RefusedPick}
+use Rattle.words.specs.Laws.{WordLaws, Example}
+use Rattle.numerals.specs.Laws.{ValueLaws}
+use Rattle.numerals.specs.Examples.{Numbers, Integers, Values}
+use Rattle.scripts.specs.Lines.{Lines}
+
+pub record Promises : Type 2 where
+  -- the entries meet their contracts, any list of calls meets demand 3, and the bench sheet holds
+  pub delivered : Delivered
+  -- the claim over lists is not empty
+  pub reached : Reached
+  -- every list of calls can be handed to `replay::run_to`
+  pub coding : (cs : List Call) → Coding cs
+  -- the picker names laws that can be flown, from power-on and from any sound bench; what it refuses has the laws 0 and 0
+  pub guides : (cs : List Call) → Guides powerOn cs
+  pub guides-from : (start : Bench) → sound start ≡ true → (cs : List Call) → Guides start cs
+  pub refused-pick : (b : Bench) (s : ℕ) → RefusedPick b s
+  -- sound benches stay sound, sets show laws in range, and an event word stands for its lowest bit
+  pub keeps-sound : KeepsSound
+  pub laws-in-range : (s : ModeSet) → LawsInRange s
+  pub names-lowest : (w : ℕ) → NamesLowest w
+  -- 107 coherent sets, changes that keep coherence, events and their numbers
+  pub mode-laws : ModeLaws
+  pub part-laws : PartLaws
+  -- the leaves
+  pub whole-laws : WholeLaws
+  pub whole-sheet : SheetWhole
+  pub whole-edges : Edges
+  pub rotation-laws : RotationLaws
+  pub rotation-sheet : SheetKnobs
+  -- the words, numbers and lines of scripts
+  pub word-laws : WordLaws
+  pub word-example : Example
+  pub number-examples : Numbers
+  pub integer-examples : Integers
+  pub value-examples : Values
+  pub value-laws : ValueLaws
+  pub script-lines : Lines
