@@ -29,7 +29,7 @@ const GREATEST: [f64; 6] = [
     359.5f64.next_down(),
 ];
 
-/// A reading: altitude, airspeed, vertical speed, roll, pitch or heading.
+/// A reading: its kind and its float.
 #[derive(Clone, Copy, Debug)]
 pub enum Reading {
     Altitude(f64),
@@ -105,7 +105,7 @@ impl Bench {
     }
 
     /// The whole value of a reading of a sound bench. Beside 3 * 2^51 a float has no digit below the
-    /// unit, so that the sum is rounded there, a tie to the even integer.
+    /// unit, so that the sum is rounded there, at a tie to the even integer.
     #[inline]
     pub fn whole(&self, reading: usize) -> i32 {
         const UNITS: f64 = 6755399441055744.0;

@@ -66,7 +66,7 @@ fn on_rule(b: &Bench, side: usize) -> u8 {
     }
 }
 
-/// FD, AP, flag and PF, judged on the bench as handed in.
+/// The first step: flight directors, AP, flag and PF, all by the bench that came.
 #[inline]
 fn first_step(b: &mut Bench, event: u32) {
     let active = b.pf as usize & 1;
@@ -194,7 +194,7 @@ fn refusal_of_side(b: &Bench, side: u32) -> u32 {
     }
 }
 
-/// A side's FD, set and references go to the other side's inbox. Answers the refusal.
+/// What a side holds goes to the other side's inbox. Answers the refusal.
 #[inline]
 pub fn send(b: &mut Bench, side: u32) -> u32 {
     let refusal = refusal_of_side(b, side);

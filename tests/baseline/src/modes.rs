@@ -62,8 +62,8 @@ pub const fn altsel_armed(m: Modes) -> bool {
     matches!(m.vertical, PITCH | VS | FLC | VGA)
 }
 
-/// Whether a set is coherent: no mode is armed and engaged at once; VAPPR is engaged only beside
-/// LAPPR engaged, and armed only beside LAPPR armed or engaged; an armed LAPPR has VAPPR armed.
+/// Whether a set is coherent: an engaged mode is not armed; an engaged VAPPR has LAPPR engaged, and
+/// an armed one has LAPPR armed or engaged; an armed LAPPR has VAPPR armed.
 pub const fn is_coherent(m: Modes) -> bool {
     let engaged = m.lateral == LAPPR;
     let selected = engaged || m.armed == LAPPR;
@@ -104,7 +104,7 @@ const fn without_nav(mut m: Modes) -> Modes {
     m
 }
 
-/// A lateral mode engages: its arming ends, and the mode that it replaces is cleared.
+/// A lateral mode engages: it is armed no longer, and the one that was engaged is cleared.
 const fn with_lateral(mut m: Modes, law: u8) -> Modes {
     if m.armed == law {
         m.armed = 0;
@@ -116,7 +116,7 @@ const fn with_lateral(mut m: Modes, law: u8) -> Modes {
     m
 }
 
-/// A vertical mode engages. Any but VAPPR leaves VAPPR armed if it was armed.
+/// A vertical mode engages. An armed VAPPR stays so, unless it is the one that engages.
 pub const fn with_vertical(mut m: Modes, law: u8) -> Modes {
     if law == VAPPR {
         m.vappr_armed = false;

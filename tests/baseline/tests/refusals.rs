@@ -1,4 +1,4 @@
-//! Each refusal under its condition and under no other, and the bench handed back.
+//! Each refusal where it applies and nowhere else, and the bench handed back.
 use baseline::{
     code, display, event, reading, refresh, send, turn, Bench, Display, Modes, Reading, HEADING,
     HELD, IAS, OFF, ON_SETS, PITCH, PRESELECTED, ROLL, VERTICAL_SPEED,

@@ -1,4 +1,4 @@
-//! The calls on a bench. A refused call leaves the bench as it was.
+//! The calls on a bench. A refused call changes nothing in it.
 
 use crate::bench::{Bench, Channel, Kind, Reference, Refusal};
 use crate::events::{self, Rule};
@@ -45,7 +45,7 @@ pub fn event(bench: &mut Bench, word: u32) -> Result<u32, Refusal> {
     Ok(event)
 }
 
-/// The three steps of a call with an event, and then entry.
+/// The three steps of an event, and then entry.
 fn act(bench: &mut Bench, event: u32) {
     let before = *bench;
     let rule = events::rule(event, &before);
@@ -55,7 +55,7 @@ fn act(bench: &mut Bench, event: u32) {
     enter(&before, bench);
 }
 
-/// FD, AP, flag and PF.
+/// One flight director, and what both sides share.
 fn first_step(bench: &mut Bench, rule: &Rule) {
     if let Some((side, on)) = rule.fd {
         bench.sides[side].fd = on;
@@ -71,7 +71,7 @@ fn first_step(bench: &mut Bench, rule: &Rule) {
     }
 }
 
-/// Whether the active side is On.
+/// The On rule, for the active side.
 fn second_step(bench: &mut Bench) {
     let inbox_fd = bench.inboxes[bench.active()].fd;
     let ap = bench.ap;
@@ -84,7 +84,7 @@ fn second_step(bench: &mut Bench) {
     }
 }
 
-/// Mode changes on the active side, and none if it is Off.
+/// The mode changes of an event; a side that is Off has none.
 fn change_modes(bench: &mut Bench, change: fn(&mut ModeSet)) {
     let modes = &mut bench.active_side().modes;
     if !modes.is_off() {
@@ -93,8 +93,8 @@ fn change_modes(bench: &mut Bench, change: fn(&mut ModeSet)) {
     }
 }
 
-/// Loads the references of modes that the call engaged on the side that is
-/// active after it.
+/// Loads the references of modes that the call has newly engaged. The side is
+/// the one that is active at its end.
 fn enter(before: &Bench, bench: &mut Bench) {
     let loads = [
         (Roll, Reference::Roll, Kind::Roll),
@@ -145,7 +145,7 @@ pub fn refresh(bench: &mut Bench, side: u32) -> Result<(), Refusal> {
 
 // ---- Knobs ----
 
-/// New minus old modulo 256, taken from -128 to 127.
+/// How far a knob went from one count to another: from -128 to 127.
 pub fn rotation(old: u8, new: u8) -> i32 {
     i32::from(new.wrapping_sub(old) as i8)
 }

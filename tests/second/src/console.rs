@@ -1,4 +1,4 @@
-//! Carries out a script on one bench and writes the answer lines.
+//! Carries out a script from power-on, and writes its answers.
 
 use std::io::{self, BufRead, Read, Write};
 

@@ -1,8 +1,8 @@
 //! The rule of each event, in one place.
 //!
-//! A rule is drawn up from the bench as handed in. It says what the first step
-//! of the call does with FD, AP, flag and PF. Its mode changes are a function,
-//! because they are judged on the set that the second step leaves.
+//! A rule is drawn up from the bench that came. It says what the first step
+//! does with a flight director and with what both sides share. Its mode changes
+//! are a function, because they need the set as it is after the second step.
 
 use crate::bench::Bench;
 use crate::sets::{Mode::*, ModeSet};
@@ -92,7 +92,7 @@ fn shared_rule(event: u32, bench: &Bench) -> Rule {
     }
 }
 
-/// The FD of that side toggles, but On stays On while the flag is set.
+/// That side's FD goes On, or Off if it was On and the flag does not hold it.
 fn fd_switch(side: usize, bench: &Bench) -> Rule {
     let on = bench.overspeed || !bench.sides[side].fd;
     Rule {
@@ -128,7 +128,7 @@ fn signal_rule(event: u32, bench: &Bench) -> ModeChange {
     }
 }
 
-/// The mode switches. A switch that finds its mode leaves FD as it was.
+/// The mode switches. One that finds its mode selected does not touch FD.
 fn switch_rule(event: u32, bench: &Bench) -> Rule {
     let set = bench.sides[bench.active()].modes;
     let (found, modes): (bool, ModeChange) = match event {

@@ -34,7 +34,7 @@ pub fn is_nan(bits: u64) -> bool {
     !is_finite(bits) && bits & FRACTION_MASK != 0
 }
 
-/// The nearest integer, a tie to the even one, of a finite float; `None` for
+/// The integer nearest to a finite float, of two such the even one; `None` for
 /// an infinity or a NaN.
 pub fn whole(bits: u64) -> Option<i128> {
     if !is_finite(bits) {
@@ -66,8 +66,8 @@ fn parts(bits: u64) -> (u128, i32) {
     }
 }
 
-/// Drops `count` binary digits, at least one, and rounds to the nearest, a tie
-/// to the even one.
+/// Drops `count` binary digits, at least one, and rounds by what was dropped,
+/// at a tie to the even number.
 fn drop_digits(significand: u128, count: i32) -> u128 {
     let units = significand >> count;
     let rest = significand - (units << count);

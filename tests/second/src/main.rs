@@ -1,7 +1,7 @@
 //! A second implementation of the flight guidance bench.
 //!
-//! Reads a script from standard input and writes one answer line for each
-//! command to standard output.
+//! A script comes in on standard input, and each of its commands is answered by
+//! a line on standard output.
 
 mod bench;
 mod calls;

@@ -255,7 +255,7 @@ fn hexadecimal(pattern: &[u8]) -> Result<u64, Problem> {
 
 const MOST_DIGITS: usize = 15;
 
-/// A decimal number that is short enough, converted to the nearest float.
+/// The float nearest to a decimal number, if that is short enough.
 fn decimal(word: &[u8]) -> Result<u64, Problem> {
     let (_, magnitude) = sign(word);
     let point = magnitude.iter().position(|&byte| byte == b'.');

@@ -124,7 +124,7 @@ impl ModeSet {
 
 /// Changes. After the last of them `complete` has to follow.
 impl ModeSet {
-    /// Engages a mode, which ends its arming and clears the mode it replaces.
+    /// Engages a mode: it is armed no longer, and what had its axis is cleared.
     pub fn engage(&mut self, mode: Mode) {
         let axis: &[Mode] = if LATERAL.contains(&mode) {
             &LATERAL
@@ -224,8 +224,8 @@ impl ModeSet {
         armed.map(|(_, number)| number).sum()
     }
 
-    /// The set of a lateral law 1 to 5, an armed lateral mode (0 none, 1 NAV,
-    /// 2 LAPPR), a vertical law 1 to 8 and an armed VAPPR, coherent or not.
+    /// The set of a lateral law 1 to 5, an armed lateral mode (1 for NAV and 2
+    /// for LAPPR), a vertical law 1 to 8 and an armed VAPPR, coherent or not.
     /// ALTSEL is armed by its rule, as the four numbers do not say.
     pub fn from_numbers(lateral: u32, armed: u32, vertical: u32, vappr_armed: bool) -> ModeSet {
         let (vertical, track) = vertical_of_law(vertical);
@@ -257,7 +257,7 @@ impl ModeSet {
         ]
     }
 
-    /// The armed lateral mode: 0 none, 1 NAV, 2 LAPPR.
+    /// The armed lateral mode: 1 for NAV, 2 for LAPPR, else 0.
     fn armed_lateral(self) -> u32 {
         match (self.is_armed(Nav), self.is_armed(Lappr)) {
             (true, _) => 1,

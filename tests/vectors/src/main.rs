@@ -6,7 +6,7 @@
 use std::fmt::Write;
 use std::{env, fs, process};
 
-/// What a 64-bit float rounds to: the nearest integer of its exact value, a tie to the even one.
+/// What a 64-bit float rounds to: the integer nearest to its exact value, of two such the even one.
 #[derive(Debug, PartialEq)]
 enum Whole {
     NotFinite,
@@ -53,7 +53,7 @@ fn agrees_with_the_library(bits: u64) -> bool {
     }
 }
 
-/// new - old modulo 256, taken from -128 to 127: the one number of that range that takes old to new.
+/// The one number from -128 to 127 that gives new, modulo 256, when it is added to old.
 fn rotation(old: i32, new: i32) -> i32 {
     (-128..128).find(|r| (old + r).rem_euclid(256) == new).unwrap()
 }

@@ -1,5 +1,5 @@
-//! Readings: at the ends of the ranges, at ties, floats of every class, and decimal numbers that
-//! have to be converted to the nearest float.
+//! Readings: at the ends of the ranges, at ties, floats of every class, and decimal numbers, whose
+//! nearest floats have to be found.
 
 use super::words::{self, pattern, patterns_at, Ranged, KINDS};
 use crate::gate::{Gate, Stop};
