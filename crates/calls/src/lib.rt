@@ -18,10 +18,11 @@ use rounding::Whole;
 ghost use mathlib.Core.Path.{_≡_};
 ghost use mathlib.Core.Bool.{cond};
 ghost use Rattle.bench.specs.Readings.{judged};
+ghost use Rattle.bench.specs.Sides.{inboxOf};
 ghost use Rattle.bench.specs.Sound.{sound};
 ghost use Rattle.calls.specs.Displays.{pfLamp, lamps, shown, blank};
 ghost use Rattle.calls.specs.Calls.{Call, sideRefusal, knobRefusal, wordRefusal, answer, eventAnswer, displayAnswer};
-ghost use Rattle.calls.specs.Private.{receivedAs, takenFrom};
+ghost use Rattle.calls.specs.Private.{receivedAs};
 ghost use Rattle.calls.specs.Sends.{sent, taken, refreshed};
 
 // The refusal of a call whose own arguments give `own`: 1, of an unsound bench, goes before it.
@@ -151,9 +152,9 @@ pub fn send(b: Bench, side: u32) -> Answer
     Answer { refusal: 0, bench }
 }
 
-// A side takes set and references of a box over; its flight director stays.
-fn take_from(b: Bench, side: u32, source: u32) -> Bench
-    ensures { λ res. ⌜ res ≡ takenFrom source side b ⌝ }
+// A side takes over the set and the references of a box; its flight director stays.
+fn take(b: Bench, side: u32, source: u32) -> Bench
+    ensures { λ res. ⌜ res ≡ taken source side b ⌝ }
 {
     let c = box_of(b, side);
     let given = box_of(b, source);
@@ -163,11 +164,11 @@ fn take_from(b: Bench, side: u32, source: u32) -> Bench
     with_box(b, side, bench::parts::with_references(next, references))
 }
 
-// What was sent to the side last is in its inbox.
-fn take(b: Bench, side: u32) -> Bench
-    ensures { λ res. ⌜ res ≡ taken side b ⌝ }
+// The box that a passive side takes over at a refresh: what was sent to it last.
+fn refresh_source(side: u32) -> u32
+    ensures { λ res. ⌜ res ≡ inboxOf side ⌝ }
 {
-    take_from(b, side, inbox_of(side))
+    inbox_of(side)
 }
 
 fn renew(b: Bench, side: u32) -> Bench
@@ -178,7 +179,7 @@ fn renew(b: Bench, side: u32) -> Bench
         let set = steps::second_step(side, b);
         steps::settle(b, side, set)
     } else {
-        take(b, side)
+        take(b, side, refresh_source(side))
     }
 }
 

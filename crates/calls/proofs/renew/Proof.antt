@@ -10,7 +10,9 @@ returns c = rw (← c .before .before .before .side-acts .ensures, c .before .be
 
 returns-2 : tie.Need-returns-2
 unfolding refreshed
-returns-2 c = rw (← c .before .before .side-acts .ensures, c .before .if1 .left) (c .take .ensures)
+returns-2 c =
+    let at-source = c .before in
+    rw (← at-source .before .before .side-acts .ensures, at-source .before .if1 .left) (simp (c .take .ensures, at-source .refresh-source .ensures))
 
 pub renew-spec : {M : Type 1} → statement M
-renew-spec = tie.close (tie.spec (λ c κs. search needs) (λ c κs. search needs) (λ c κs. search needs) (λ c κs. search needs) returns returns-2)
+renew-spec = tie.close (tie.spec (λ c κs. search needs) (λ c κs. search needs) (λ c κs. search needs) (λ c κs. search needs) (λ c κs. search needs) returns returns-2)
