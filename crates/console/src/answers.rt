@@ -17,12 +17,12 @@ use bench::Shared;
 use bench::parts::box_of;
 use bench::parts::reference_at;
 use calls::answers::Display;
-use calls::answers::EventAnswer;
 use guidance::Picked;
 use modes::ArmedLateral;
 use modes::ModeSet;
 use modes::Modes;
 use scripts::Command;
+use sessions::Taken;
 
 fn put_event(out: &mut [u8], waiting: usize, refusal: u32, event: u32) -> usize {
     let at = put_text(out, waiting, b"event");
@@ -163,23 +163,19 @@ fn put_refusal(out: &mut [u8], waiting: usize, c: Command, refusal: u32) -> usiz
     put(out, end, b'\n')
 }
 
-// The answer to a command of a line.
-pub(crate) fn put_answer(
-    out: &mut [u8],
-    waiting: usize,
-    line: u64,
-    c: Command,
-    a: EventAnswer,
-) -> usize {
-    let b = a.bench;
-    match c {
+// The answer to what was asked, in a line of its own or more.
+pub(crate) fn put_answer(out: &mut [u8], waiting: usize, t: Taken) -> usize {
+    let session = t.session;
+    let command = t.command;
+    let b = session.bench;
+    match command {
         Command::Blank => waiting,
-        Command::Wrong(why) => put_error(out, waiting, line, why),
-        Command::Event(_) => put_event(out, waiting, a.refusal, a.event),
+        Command::Wrong(why) => put_error(out, waiting, session.lines, why),
+        Command::Event(_) => put_event(out, waiting, t.refusal, t.event),
         Command::Display(side) => put_side(out, waiting, b, side),
         Command::Pick(side) => put_pick(out, waiting, guidance::pick(b, side)),
         Command::Bench => put_bench(out, waiting, b),
         Command::Panel => put_panel(out, waiting, b),
-        _ => put_refusal(out, waiting, c, a.refusal),
+        _ => put_refusal(out, waiting, command, t.refusal),
     }
 }

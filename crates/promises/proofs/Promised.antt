@@ -15,6 +15,7 @@ use Rattle.words.proofs.Laws.{word-laws, example}
 use Rattle.numerals.proofs.Laws.{value-laws}
 use Rattle.numerals.proofs.Examples.{numbers, integers, values}
 use Rattle.scripts.proofs.Lines.{lines}
+use Rattle.sessions.proofs.Laws.{session-laws}
 use Rattle.promises.specs.Promises.{Promises}
 
 pub promises : Promises
@@ -42,4 +43,5 @@ promises = record {
   value-examples = values;
   value-laws = value-laws;
   script-lines = lines;
+  session-laws = session-laws;
 }

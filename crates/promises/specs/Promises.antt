@@ -25,6 +25,7 @@ use Rattle.words.specs.Laws.{WordLaws, Example}
 use Rattle.numerals.specs.Laws.{ValueLaws}
 use Rattle.numerals.specs.Examples.{Numbers, Integers, Values}
 use Rattle.scripts.specs.Lines.{Lines}
+use Rattle.sessions.specs.Laws.{SessionLaws}
 
 pub record Promises : Type 2 where
   -- the entries meet their contracts, any list of calls meets demand 3, and the bench sheet holds
@@ -58,3 +59,5 @@ pub record Promises : Type 2 where
   pub value-examples : Values
   pub value-laws : ValueLaws
   pub script-lines : Lines
+  -- a script's bytes leave the bench that its lines ask for
+  pub session-laws : SessionLaws

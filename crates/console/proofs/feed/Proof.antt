@@ -1,16 +1,45 @@
--- `console::feed` is safe and ends. The loop counts up to the piece's end. Assumes nothing.
-use Prim.Native.Nat.{_≤_, _-_}
+-- `console::feed` meets its contract. The loop's invariant: session and room, fed with the rest of the piece, come to what the piece makes of those that it began with.
+-- Assumes nothing.
+use mathlib.Core.Path.{_≡_, ap, _∙_}
+use mathlib.Core.List.{List}
+use Prim.Native.Nat.{ℕ, _+_, _<_, _-_}
+use native.Mathlib.Numerals.{add-one}
+use lib.ListN.{length, getD, drop, drop-of-length-le}
+use lib.Seq.{drop-cons}
 use borrow.Author.Needs.{needs}
-use lib.ListN.{length}
-use mathlib.Core.Path.{_≡_, refl, _∙_}
+use Rattle.sessions.specs.declared.Session.{Session}
+use Rattle.sessions.specs.declared.Taken.{Taken}
+use Rattle.sessions.specs.Sessions.{Held, byteTaken, roomAfter, fed}
 use Rattle.console.proofs.feed.Statement.{statement}
 use Rattle.console.proofs.feed.Tie as tie
 
 abbrev Inv-loop : tie.InvT-loop
-Inv-loop piece line₀ out₀ next₀ i₀ line out next i = (i ≤ length piece) × ((length line ≡ length line₀) × (length out ≡ length out₀))
+Inv-loop piece line₀ out₀ s₀ waiting₀ i₀ line out s waiting i =
+    (length out ≡ length out₀) × (fed s line (drop i piece) ≡ fed s₀ line₀ piece)
 
 abbrev μ-loop : tie.MeasureT-loop
-μ-loop piece line₀ out₀ next₀ i₀ line out next i = length piece - i
+μ-loop piece line₀ out₀ s₀ waiting₀ i₀ line out s waiting i = length piece - i
+
+-- the byte at i was taken, and the rest follows on it
+byte-taken : (s : Session) (room piece : List ℕ) (i : ℕ) {t : Taken} {next : List ℕ} → i < length piece →
+    t ≡ byteTaken s room (getD piece i 0) → next ≡ roomAfter s room (getD piece i 0) → fed (t .session) next (drop (i + 1) piece) ≡ fed s room (drop i piece)
+unfolding fed
+byte-taken s room piece i h e f = rw (e, f, add-one, drop-cons piece i 0)
+
+loop-again : tie.Need-loop-again Inv-loop μ-loop
+loop-again c =
+    let at-taken = c .before .before .before .before .before in
+    let in-loop = at-taken .before .before .before in
+    let l = in-loop .before .loop in
+    let taken = at-taken .take-byte .ensures in
+    (search needs, byte-taken (l .s) (l .line) _ (l .i) (in-loop .loop-test .taken) (taken .0) (taken .1) ∙ l .inv .1)
+
+returns : tie.Need-returns Inv-loop μ-loop
+unfolding fed
+returns c =
+    let at-end = c .before .before in
+    let all = rw (drop-of-length-le _ (at-end .loop-test .left)) at (at-end .before .loop .inv .1) in
+    (ap (λ (h : Held). h .session) all, ap (λ (h : Held). h .room) all)
 
 pub feed-spec : {M : Type 1} → statement M
 feed-spec =
@@ -21,9 +50,10 @@ feed-spec =
     (λ c. search needs)
     (λ c. search needs)
     (λ c κs. search needs)
+    (λ c κs. search needs)
     (λ c. search needs)
     (λ c. search needs)
+    loop-again
+    (λ c κs. search needs)
     (λ c. search needs)
-    (λ c. search needs)
-    (λ c. search needs)
-    (λ c. search needs))
+    returns)

@@ -1,0 +1,70 @@
+-- `sessions::acts::answer_to` meets its contract: each arm hands on the answer of its call, or the bench that it made.
+-- The last sixteen needs are the arms, in the order of the commands. Assumes nothing.
+use mathlib.Core.Path.{_∙_, ap}
+use Rattle.sessions.specs.Acts.{eventless, leaves, answerTo}
+use borrow.Author.Needs.{needs}
+use Rattle.sessions.proofs.acts.answer_to.Statement.{statement}
+use Rattle.sessions.proofs.acts.answer_to.Tie as tie
+
+pub answer-to-spec : {M : Type 1} → statement M
+unfolding answerTo
+answer-to-spec =
+    tie.close
+    (tie.spec
+    (λ c. search needs)
+    (λ c κs. search needs)
+    (λ c. search needs)
+    (λ c κs. search needs)
+    (λ c. search needs)
+    (λ c κs. search needs)
+    (λ c. search needs)
+    (λ c κs. search needs)
+    (λ c κs. search needs)
+    (λ c. search needs)
+    (λ c κs. search needs)
+    (λ c κs. search needs)
+    (λ c. search needs)
+    (λ c κs. search needs)
+    (λ c. search needs)
+    (λ c κs. search needs)
+    (λ c. search needs)
+    (λ c κs. search needs)
+    (λ c κs. search needs)
+    (λ c. search needs)
+    (λ c κs. search needs)
+    (λ c κs. search needs)
+    (λ c. search needs)
+    (λ c κs. search needs)
+    (λ c κs. search needs)
+    (λ c. search needs)
+    (λ c κs. search needs)
+    (λ c. search needs)
+    (λ c κs. search needs)
+    (λ c. search needs)
+    (λ c κs. search needs)
+    (λ c κs. search needs)
+    (λ c. search needs)
+    (λ c κs. search needs)
+    (λ c κs. search needs)
+    (λ c. search needs)
+    (λ c κs. search needs)
+    (λ c κs. search needs)
+    (λ c. search needs)
+    (λ c κs. search needs)
+    (λ c κs. search needs)
+    (λ c. rw (c .before .enum-told .given .1) (c .bench-alone .ensures))
+    (λ c. rw (c .before .enum-told2 .given .1) (c .bench-alone2 .ensures))
+    (λ c. rw (c .before .before .c .given .1) (c .event .ensures))
+    (λ c. rw (c .before .before .before .c2 .given .1) (c .plain .ensures ∙ ap eventless (c .before .send .ensures)))
+    (λ c. rw (c .before .before .before .c3 .given .1) (c .plain2 .ensures ∙ ap eventless (c .before .refresh .ensures)))
+    (λ c. rw (c .before .enum-told3 .given .1) (c .bench-alone3 .ensures))
+    (λ c. rw (c .before .enum-told4 .given .1) (c .bench-alone4 .ensures))
+    (λ c. rw (c .before .before .before .c4 .given .1) (c .plain3 .ensures ∙ ap eventless (c .before .turn .ensures)))
+    (λ c. rw (c .before .before .before .c5 .given .1) (c .plain4 .ensures ∙ ap eventless (c .before .reading .ensures)))
+    (λ c. rw (c .before .before .enum-told5 .given .1) (c .bench-alone5 .ensures ∙ ap leaves (c .before .power-on .ensures)))
+    (λ c. rw (c .before .enum-told6 .given .1) (c .bench-alone6 .ensures))
+    (λ c. rw (c .before .enum-told7 .given .1) (c .bench-alone7 .ensures))
+    (λ c. rw (c .before .before .before .c6 .given .1) (c .bench-alone8 .ensures ∙ ap leaves (c .before .damage-pf .ensures)))
+    (λ c. rw (c .before .before .before .c7 .given .1) (c .bench-alone9 .ensures ∙ ap leaves (c .before .damage-reading .ensures)))
+    (λ c. rw (c .before .before .before .c8 .given .1) (c .bench-alone10 .ensures ∙ ap leaves (c .before .damage-set .ensures)))
+    (λ c. rw (c .before .before .before .c9 .given .1) (c .bench-alone11 .ensures ∙ ap leaves (c .before .damage-reference .ensures) ∙ search needs)))

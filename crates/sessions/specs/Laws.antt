@@ -1,0 +1,33 @@
+-- The laws of sessions: a session that was fed a script has the bench that the script means. `session-laws` of `proofs/Laws.antt` proves them.
+use mathlib.Core.Path.{_≡_}
+use mathlib.Core.List.{List, [], _∷_, _++_, flatten}
+use Prim.Native.Nat.{ℕ, _%_, _^_, min}
+use lib.ListN.{length, take, getD}
+use Rattle.sessions.specs.Script.{linesOf, allLines, asked, benchOf}
+use Rattle.sessions.specs.Sessions.{beginning, carriedOut, byteTaken, scriptEnded, Held, fedAll}
+
+-- a session and its room, which have read a script
+pub record HasRead (script : List ℕ) (h : Held) : Type 0 where
+  -- the bench is the one that the ended lines leave, and they are counted
+  pub bench : h .session .bench ≡ benchOf (linesOf script .ended)
+  pub counted : h .session .lines ≡ length (linesOf script .ended) % 2 ^ 64
+  -- what follows the last line end is kept, up to 256 bytes
+  pub filled : h .session .length ≡ min 256 (length (linesOf script .last))
+  pub kept : take (h .session .length) (h .room) ≡ take 256 (linesOf script .last)
+  -- a line end would carry out what that line asks for,
+  pub heard : byteTaken (h .session) (h .room) 10 ≡ carriedOut (h .session) (asked (linesOf script .last))
+  -- and the script's end leaves the bench of all its lines
+  pub ended : scriptEnded (h .session) (h .room) .session .bench ≡ benchOf (allLines script)
+
+-- lines as a script writes them
+abbrev pub written : List (List ℕ) → List ℕ → List ℕ
+written [] last = last
+written (line ∷ more) last = line ++ 10 ∷ written more last
+
+pub record SessionLaws : Type 0 where
+  -- a session that begins with a room of 256 bytes, whatever they are, reads every script, in whatever pieces it comes
+  pub reads : (room : List ℕ) → length room ≡ 256 → (pieces : List (List ℕ)) → HasRead (flatten pieces) (fedAll beginning room pieces)
+  -- the lines of a script are all of it, and none of them holds a line end
+  pub whole : (script : List ℕ) → written (linesOf script .ended) (linesOf script .last) ≡ script
+  pub no-end : (script : List ℕ) (k i : ℕ) → getD (getD (linesOf script .ended) k []) i 0 ≡ 10 → ⊥
+  pub no-end-last : (script : List ℕ) (i : ℕ) → getD (linesOf script .last) i 0 ≡ 10 → ⊥

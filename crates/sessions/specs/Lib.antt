@@ -1,0 +1,5 @@
+pub mod Damage
+pub mod Acts
+pub mod Script
+pub mod Sessions
+pub mod Laws
