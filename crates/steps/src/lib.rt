@@ -21,7 +21,7 @@ ghost use Rattle.modes.specs.Events.{lineOf};
 ghost use Rattle.bench.specs.Sides.{whereActing};
 ghost use Rattle.steps.specs.Entry.{loaded, entry, settled};
 ghost use Rattle.steps.specs.Private.{lateralEntry, verticalEntry};
-ghost use Rattle.steps.specs.Steps.{sharedAfter, toggledFd, asksFor, fdAfter, withFdAfter, firstStep, comingOn, secondStep, thirdStep, laterSteps, threeSteps, acted};
+ghost use Rattle.steps.specs.Steps.{sharedAfter, toggledFd, asksFor, fdAfter, withFdAfter, firstStep, isOn, comingOn, secondStep, thirdStep, laterSteps, threeSteps, acted};
 
 // The references with a reading's whole value at a place, clamped to its range.
 fn load(r: References, place: u32, reading: Reading) -> References
@@ -173,19 +173,24 @@ fn coming_on(s: ModeSet) -> ModeSet
     }
 }
 
-// The set of a side by the On rule.
-pub fn second_step(side: u32, b: Bench) -> ModeSet
-    ensures { λ res. ⌜ res ≡ secondStep side b ⌝ }
+// The On rule: the side's own FD, the one in its inbox, or AP.
+fn is_on(side: u32, b: Bench) -> bool
+    ensures { λ res. ⌜ res ≡ isOn side b ⌝ }
 {
     let shared = b.shared;
     let c = box_of(b, side);
     let sent = box_of(b, bench::parts::inbox_of(side));
+    c.fd | sent.fd | shared.ap
+}
+
+// The set of a side by the On rule.
+pub fn second_step(side: u32, b: Bench) -> ModeSet
+    ensures { λ res. ⌜ res ≡ secondStep side b ⌝ }
+{
+    let c = box_of(b, side);
     let set = c.set;
-    if c.fd | sent.fd | shared.ap {
-        coming_on(set)
-    } else {
-        ModeSet::Off
-    }
+    let on = is_on(side, b);
+    if on { coming_on(set) } else { ModeSet::Off }
 }
 
 fn third_step(e: Event, flag: bool, s: ModeSet) -> ModeSet
