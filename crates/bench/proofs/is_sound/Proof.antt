@@ -9,4 +9,7 @@ unfolding sound
 is-sound-spec =
     tie.close (tie.spec
     (λ c κs. search needs) (λ c κs. search needs) (λ c κs. search needs) (λ c κs. search needs) (λ c κs. search needs)
-    (λ c. cc))
+    (λ c.
+    let at-boxes = c .before .before in
+    let at-left = at-boxes .before .before in
+    simp (c .before .readings-sound .ensures, at-boxes .box-sound4 .ensures, at-boxes .before .box-sound3 .ensures, at-left .box-sound2 .ensures, at-left .before .box-sound .ensures)))

@@ -7,4 +7,4 @@ use Rattle.bench.proofs.power_on.Tie as tie
 
 pub power-on-spec : {M : Type 1} → statement M
 unfolding powerOn ofBits
-power-on-spec = tie.close (tie.spec (λ c κs. search needs) (λ c. cc))
+power-on-spec = tie.close (tie.spec (λ c κs. search needs) (λ c. simp (c .start-channel .ensures)))

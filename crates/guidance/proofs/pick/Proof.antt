@@ -6,4 +6,4 @@ use Rattle.guidance.proofs.pick.Tie as tie
 
 pub pick-spec : {M : Type 1} → statement M
 unfolding pickedOf
-pick-spec = tie.close (tie.spec (λ c κs. search needs) (λ c. cc))
+pick-spec = tie.close (tie.spec (λ c κs. search needs) (λ c. simp (c .before .display .ensures)))
