@@ -18,7 +18,6 @@ use bench::parts::box_of;
 use bench::parts::reference_at;
 use calls::answers::Display;
 use guidance::Picked;
-use modes::ArmedLateral;
 use modes::ModeSet;
 use modes::Modes;
 use scripts::Command;
@@ -69,20 +68,12 @@ fn put_side(out: &mut [u8], waiting: usize, b: Bench, side: u32) -> usize {
     put_display(out, waiting, a.refusal, d)
 }
 
-fn armed_number(a: ArmedLateral) -> u32 {
-    match a {
-        ArmedLateral::Neither => 0,
-        ArmedLateral::Nav => 1,
-        ArmedLateral::Lappr => 2,
-    }
-}
-
 fn put_modes(out: &mut [u8], waiting: usize, m: Modes) -> usize {
     let lateral = m.lateral;
     let armed = m.armed;
     let vertical = m.vertical;
     let mut at = put_next(out, waiting, modes::numbers::lateral_number(lateral));
-    at = put_next(out, at, armed_number(armed));
+    at = put_next(out, at, modes::numbers::armed_number(armed));
     at = put_next(out, at, modes::numbers::vertical_number(vertical));
     put_next_flag(out, at, m.vappr_armed)
 }
