@@ -219,6 +219,13 @@ promises = record { delivered = λ (x : ℕ). x; guides-from = y }
         report(&tree).faults.len()
     }
 
+    /// Each text in the place of one of the value's file is one fault.
+    fn each_is_a_fault(old: &str, wrong: &[&str]) {
+        for new in wrong {
+            assert_eq!(changed(PROOFS, old, new), 1, "{new}");
+        }
+    }
+
     #[test]
     fn a_good_crate_passes() {
         assert_eq!(report(&good()).faults, Vec::<String>::new());
@@ -295,9 +302,7 @@ promises = record { delivered = λ (x : ℕ). x; guides-from = y }
             "pub promises : Promises\n-- and\n\n    → Promises",
             "pub promises : Promises\npub promises : A → Promises",
         ];
-        for signature in wrong {
-            assert_eq!(changed(PROOFS, SIGNATURE, signature), 1, "{signature}");
-        }
+        each_is_a_fault(SIGNATURE, &wrong);
         assert_eq!(changed(PROOFS, "-- All of it.", "{- All of it. -}"), 1);
     }
 
@@ -313,9 +318,7 @@ promises = record { delivered = λ (x : ℕ). x; guides-from = y }
             "use Rattle.promises.specs.Promises.{Promises}\nrecord Promises : Type 0 where",
             "use Rattle.promises.specs.Promises.{Promises}\ndata Promises : Type 0 where",
         ];
-        for line in wrong {
-            assert_eq!(changed(PROOFS, used, line), 1, "{line}");
-        }
+        each_is_a_fault(used, &wrong);
     }
 
     #[test]

@@ -310,7 +310,7 @@ mod tests {
     use super::*;
     use crate::tests::tree;
 
-    const ROOT: &str = "/root/target/must-fail/low/one/";
+    const ROOT: &str = "target/must-fail/low/one/";
 
     /// A text for each pattern, in the order of the patterns.
     const TEXTS: [&str; PATTERNS.len()] = [
