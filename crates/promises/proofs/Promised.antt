@@ -7,6 +7,7 @@ use Rattle.modes.proofs.Laws.{mode-laws}
 use Rattle.bench.proofs.Replaced.{part-laws}
 use Rattle.soundness.proofs.Kept.{keeps-sound, laws-in-range}
 use Rattle.soundness.proofs.Lowest.{names}
+use Rattle.claim.proofs.Claimed.{claims}
 use Rattle.claim.proofs.Reached.{reached}
 use Rattle.replay.proofs.Delivered.{delivered}
 use Rattle.replay.proofs.Coding.{coding}
@@ -21,6 +22,7 @@ use Rattle.promises.specs.Promises.{Promises}
 pub promises : Promises
 promises = record {
   delivered = delivered;
+  claims = claims;
   reached = reached;
   coding = coding;
   guides = guides;

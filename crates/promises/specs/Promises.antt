@@ -17,6 +17,7 @@ use Rattle.bench.specs.Sound.{sound}
 use Rattle.calls.specs.Calls.{Call}
 use Rattle.soundness.specs.Kept.{KeepsSound, LawsInRange}
 use Rattle.soundness.specs.Lowest.{NamesLowest}
+use Rattle.claim.specs.Claim.{Claims}
 use Rattle.claim.specs.Reached.{Reached}
 use Rattle.replay.specs.Runs.{Delivered}
 use Rattle.replay.specs.Coded.{Coding}
@@ -30,6 +31,8 @@ use Rattle.sessions.specs.Laws.{SessionLaws}
 pub record Promises : Type 2 where
   -- the entries meet their contracts, any list of calls meets demand 3, and the bench sheet holds
   pub delivered : Delivered
+  -- the same claim of the rules alone, from power-on, from any sound bench and from an unsound one
+  pub claims : Claims
   -- the claim over lists is not empty
   pub reached : Reached
   -- every list of calls can be handed to `replay::run_to`

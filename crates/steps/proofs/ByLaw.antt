@@ -1,5 +1,5 @@
 -- Entry by the numbers of the laws: a mode is newly engaged exactly where its law is shown and was not, and at most one on each axis is. Assumes nothing.
-use mathlib.Core.Path.{_≡_, refl, ap, _∙_, sym}
+use mathlib.Core.Path.{_≡_, refl, ap, _∙_}
 use mathlib.Core.Bool.{Bool, true, false, not, _&&_, cond}
 use Prim.Native.Nat.{ℕ, zero, suc}
 use native.Mathlib.Omega.{arith}

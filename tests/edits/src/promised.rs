@@ -17,6 +17,7 @@ const USED: &str = "use Rattle.promises.specs.Promises.{";
 /// otherwise is added, dropped or said otherwise here too.
 const FIELDS: &[&str] = &[
     "delivered : Delivered",
+    "claims : Claims",
     "reached : Reached",
     "coding : (cs : List Call) → Coding cs",
     "guides : (cs : List Call) → Guides powerOn cs",

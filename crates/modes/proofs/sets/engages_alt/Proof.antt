@@ -1,5 +1,4 @@
 -- `modes::sets::engages_alt` meets its contract: a set shows law 4 where ALT is engaged. Assumes nothing.
-use mathlib.Core.Path.{_∙_, sym}
 use borrow.Author.Tests.{ne-eqb}
 use Rattle.modes.specs.Sets.{ALT, engaged}
 use Rattle.modes.proofs.Joins.{vertical-shown}

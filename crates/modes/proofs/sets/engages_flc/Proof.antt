@@ -1,5 +1,4 @@
 -- `modes::sets::engages_flc` meets its contract: a set shows law 3 where FLC is engaged. Assumes nothing.
-use mathlib.Core.Path.{_∙_, sym}
 use borrow.Author.Tests.{ne-eqb}
 use Rattle.modes.specs.Sets.{FLC, engaged}
 use Rattle.modes.proofs.Joins.{vertical-shown}

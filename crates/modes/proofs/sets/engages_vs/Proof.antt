@@ -1,5 +1,4 @@
 -- `modes::sets::engages_vs` meets its contract: a set shows law 2 where VS is engaged. Assumes nothing.
-use mathlib.Core.Path.{_∙_, sym}
 use borrow.Author.Tests.{ne-eqb}
 use Rattle.modes.specs.Sets.{VS, engaged}
 use Rattle.modes.proofs.Joins.{vertical-shown}
