@@ -3,14 +3,25 @@ use mathlib.Core.Path.{refl}
 use lib.Ieee.{ofBits, round}
 use Rattle.words.specs.Words.{upTo}
 use Rattle.numerals.specs.Digits.{allDigits, numeralValue, isNumeral}
-use Rattle.numerals.specs.Numbers.{numberIn}
+use Rattle.numerals.specs.Numbers.{numberIn, clicksIn}
 use Rattle.numerals.specs.Integers.{signedAs}
 use Rattle.numerals.specs.Values.{patternOf, decimalAs}
 use Rattle.numerals.specs.Examples.{Numbers, Integers, Values}
 
 pub numbers : Numbers
-unfolding allDigits numeralValue isNumeral numberIn
-numbers = record { zero-in-front = refl; above = refl; empty = refl; letter = refl }
+unfolding allDigits numeralValue isNumeral numberIn clicksIn
+numbers = record {
+  zero-in-front = refl;
+  above = refl;
+  empty = refl;
+  letter = refl;
+  most = refl;
+  too-many = refl;
+  one-back = refl;
+  most-back = refl;
+  too-many-back = refl;
+  none-back = refl;
+}
 
 pub integers : Integers
 unfolding allDigits numeralValue isNumeral signedAs

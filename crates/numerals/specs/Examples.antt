@@ -7,7 +7,7 @@ use lib.Ieee.{nan, inf, fin, binary64, ofBits}
 use Rattle.numerals.specs.declared.answers.Number.the-variants.{Is as IsNumber, Wrong as NoNumber}
 use Rattle.numerals.specs.declared.answers.Signed.the-variants.{Is as IsSigned, Wrong as NoSigned}
 use Rattle.numerals.specs.declared.answers.Value.the-variants.{Is as IsValue, Wrong as NoValue}
-use Rattle.numerals.specs.Numbers.{numberIn}
+use Rattle.numerals.specs.Numbers.{numberIn, clicksIn}
 use Rattle.numerals.specs.Integers.{signedIn}
 use Rattle.numerals.specs.Values.{valueIn}
 
@@ -17,6 +17,13 @@ pub record Numbers : Type 0 where
   pub above : numberIn 255 (50 ∷ 53 ∷ 54 ∷ []) ≡ NoNumber
   pub empty : numberIn 255 [] ≡ NoNumber
   pub letter : numberIn 255 (49 ∷ 65 ∷ []) ≡ NoNumber
+  -- clicks, modulo 256: `127`, `128`, `-1`, `-128`, `-129`, `-0`
+  pub most : clicksIn (49 ∷ 50 ∷ 55 ∷ []) ≡ IsNumber 127
+  pub too-many : clicksIn (49 ∷ 50 ∷ 56 ∷ []) ≡ NoNumber
+  pub one-back : clicksIn (45 ∷ 49 ∷ []) ≡ IsNumber 255
+  pub most-back : clicksIn (45 ∷ 49 ∷ 50 ∷ 56 ∷ []) ≡ IsNumber 128
+  pub too-many-back : clicksIn (45 ∷ 49 ∷ 50 ∷ 57 ∷ []) ≡ NoNumber
+  pub none-back : clicksIn (45 ∷ 48 ∷ []) ≡ IsNumber 0
 
 pub record Integers : Type 0 where
   -- `-2147483648`, `2147483648`, `-0`, `-`, `+1`

@@ -1,4 +1,4 @@
-// Numbers as a script writes them. A word is a slice of bytes, and is read as a number, as a signed
+// Numbers as a script writes them. A word is a slice of bytes, and is read as a number, as clicks, as a signed
 // number or as a float. specs/Numbers, Integers and Values say what is read as what, specs/Examples
 // gives words, and specs/Private has what only the private functions promise.
 pub mod answers;
@@ -12,7 +12,7 @@ ghost use mathlib.Core.Bool.{true, false};
 ghost use lib.IntN.{pos, negℤ};
 ghost use lib.Ieee.{binary64, round};
 ghost use Rattle.numerals.specs.Digits.{digitOf};
-ghost use Rattle.numerals.specs.Numbers.{numberIn};
+ghost use Rattle.numerals.specs.Numbers.{numberIn, backward, clicksIn};
 ghost use Rattle.numerals.specs.Integers.{signedAs, signedIn};
 ghost use Rattle.numerals.specs.Words.{hasMinus, unsigned};
 ghost use Rattle.numerals.specs.Values.{nameOf, patternOf, decimalAs, firstOf, valueIn};
@@ -159,6 +159,29 @@ pub fn signed(w: &[u8]) -> Signed
         negative(size)
     } else {
         positive(size)
+    }
+}
+
+// So many clicks back, modulo 256.
+fn clicks_back(w: &[u8]) -> Number
+    ensures { λ res. ⌜ res ≡ backward (numberIn 128 (now (w .entry))) ⌝ }
+{
+    let found = number(w, 128);
+    match found {
+        Number::Is(n) => Number::Is((256 - n % 256) % 256),
+        Number::Wrong => Number::Wrong,
+    }
+}
+
+// The clicks of a knob, from -128 to 127, modulo 256: what they add to its count.
+pub fn clicks(w: &[u8]) -> Number
+    ensures { λ res. ⌜ res ≡ clicksIn (now (w .entry)) ⌝ }
+{
+    let size = unsigned(w);
+    if has_minus(w) {
+        clicks_back(size)
+    } else {
+        number(size, 127)
     }
 }
 

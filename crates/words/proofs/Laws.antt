@@ -9,7 +9,7 @@ use borrow.Author.Tests.{eqb-true, eqb-false, not-true, not-false}
 use lib.Dec.{eqb}
 use lib.ListN.{length, getD, take, drop, take-append-drop, length-take}
 use lib.Seq.{getD-take}
-use Rattle.words.specs.Words.{run, leading, placeOf, upTo, pastSpaces, firstWord, pastWord, rest, wordOf, sameBytes, lookupOf}
+use Rattle.words.specs.Words.{run, isSpace, leading, placeOf, upTo, pastSpaces, firstWord, pastWord, rest, wordOf, sameBytes, lookupOf}
 use Rattle.words.specs.Laws.{IsFirst, WordLaws, Example}
 use Rattle.words.proofs.Names.{same-refl, same-true}
 
@@ -30,6 +30,13 @@ unfolding upTo
 no-byte x text i h e =
     let l : i < placeOf x text = omega (arith, length-take (placeOf x text) text) in
     eqb-false _ _ (not-true _ (run-holds _ text i l)) (sym (getD-take (placeOf x text) text i 0 l) ∙ e)
+
+no-space : (text : List ℕ) (n i : ℕ) → i < length (wordOf text n) → isSpace (getD (wordOf text n) i 0) ≡ false
+unfolding wordOf firstWord
+no-space text n i h =
+    let from = pastSpaces (rest n text) in
+    let l : i < leading false from = omega (arith, length-take (leading false from) from) in
+    rw (getD-take (leading false from) from i 0 l) (not-true _ (run-holds _ from i l))
 
 -- ---- where a run ends
 
@@ -72,10 +79,10 @@ pub word-laws : WordLaws
 unfolding wordOf firstWord pastWord upTo pastSpaces
 word-laws = record {
   no-byte = no-byte;
-  no-space = λ text n. no-byte 32 (pastSpaces (rest n text));
-  word-start = λ text h. eqb-false _ _ (behind-run (λ b. eqb b 32) text h);
-  word-end = λ text h. eqb-true _ _ (not-false _ (behind-run (λ b. not (eqb b 32)) (pastSpaces text) h));
-  whole = λ text. rw take-append-drop (take-append-drop (leading text) text);
+  no-space = no-space;
+  word-start = λ text h. behind-run isSpace text h;
+  word-end = λ text h. not-false _ (behind-run (λ b. not (isSpace b)) (pastSpaces text) h);
+  whole = λ text. rw take-append-drop (take-append-drop (leading true text) text);
   lookup-first = lookup-first;
 }
 

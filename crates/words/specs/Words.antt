@@ -1,6 +1,6 @@
--- The words of a text, which is a list of bytes: the runs of bytes other than 32, the space.
+-- The words of a text, which is a list of bytes: the runs of bytes that are no spaces. The console's page, 'Script'.
 use Prim.Native.Nat.{ℕ, zero, suc}
-use mathlib.Core.Bool.{Bool, true, false, not, cond, _&&_}
+use mathlib.Core.Bool.{Bool, true, false, not, cond, _&&_, _||_}
 use mathlib.Core.List.{List, [], _∷_}
 use lib.Dec.{eqb}
 use lib.ListN.{take, drop}
@@ -10,9 +10,17 @@ abbrev pub run : (ℕ → Bool) → List ℕ → ℕ
 run p [] = 0
 run p (b ∷ bs) = cond (p b) (suc (run p bs)) 0
 
--- how many spaces a text starts with
-abbrev pub leading : List ℕ → ℕ
-leading text = run (λ b. eqb b 32) text
+-- bytes that separate words: the space, the tab and the carriage return
+abbrev pub isSpace : ℕ → Bool
+isSpace b = eqb b 32 || (eqb b 9 || eqb b 13)
+
+-- a byte is a space, or it is none
+abbrev pub isOf : Bool → ℕ → Bool
+isOf spaces b = cond spaces (isSpace b) (not (isSpace b))
+
+-- how many spaces a text starts with, or how many bytes that are none
+abbrev pub leading : Bool → List ℕ → ℕ
+leading spaces text = run (isOf spaces) text
 
 -- where the byte x first stands in a text; its length where it does not
 abbrev pub placeOf : ℕ → List ℕ → ℕ
@@ -24,15 +32,15 @@ upTo x text = take (placeOf x text) text
 
 -- a text behind the spaces that it starts with
 unfoldable pub pastSpaces : List ℕ → List ℕ
-pastSpaces text = drop (leading text) text
+pastSpaces text = drop (leading true text) text
 
 -- a text's first word; nothing where it has none
 unfoldable pub firstWord : List ℕ → List ℕ
-firstWord text = upTo 32 (pastSpaces text)
+firstWord text = take (leading false (pastSpaces text)) (pastSpaces text)
 
 -- what follows a text's first word
 unfoldable pub pastWord : List ℕ → List ℕ
-pastWord text = drop (placeOf 32 (pastSpaces text)) (pastSpaces text)
+pastWord text = drop (leading false (pastSpaces text)) (pastSpaces text)
 
 -- what follows a text's first n words
 abbrev pub rest : ℕ → List ℕ → List ℕ

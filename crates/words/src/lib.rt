@@ -1,16 +1,32 @@
-// The words of a line of text: runs of bytes other than spaces. A word that is not there is empty.
+// The words of a line of text: runs of bytes that are no spaces. A word that is not there is empty.
 ghost use mathlib.Core.Path.{_≡_};
-ghost use Rattle.words.specs.Words.{leading, placeOf, upTo, pastSpaces, firstWord, pastWord, wordOf, lookupOf};
+ghost use Rattle.words.specs.Words.{isSpace, isOf, leading, placeOf, upTo, pastSpaces, firstWord, pastWord, wordOf, lookupOf};
 
-const SPACE: u8 = 32;
+// Whether a byte separates words: a tab and a carriage return do so as a space does.
+fn is_space(byte: u8) -> bool
+    ensures { λ res. ⌜ res ≡ isSpace byte ⌝ }
+{
+    (byte == b' ') | ((byte == b'\t') | (byte == b'\r'))
+}
 
-// How many spaces a text starts with.
-fn spaces(text: &[u8]) -> usize
-    ensures { λ res. ⌜ res ≡ leading (now (text .entry)) ⌝ }
+// Whether a byte is a space, where spaces are asked for, or is none, where they are not.
+fn is_of(spaces: bool, byte: u8) -> bool
+    ensures { λ res. ⌜ res ≡ isOf spaces byte ⌝ }
+{
+    if spaces {
+        is_space(byte)
+    } else {
+        !is_space(byte)
+    }
+}
+
+// How many bytes a text starts with that are spaces, or that are none.
+fn length_of(spaces: bool, text: &[u8]) -> usize
+    ensures { λ res. ⌜ res ≡ leading spaces (now (text .entry)) ⌝ }
 {
     let mut count = 0;
     while count < text.len() {
-        if text[count] != SPACE {
+        if !is_of(spaces, text[count]) {
             return count;
         }
         count += 1;
@@ -44,7 +60,7 @@ pub fn up_to(text: &[u8], byte: u8) -> &[u8]
 fn past_spaces(text: &[u8]) -> &[u8]
     ensures { λ res. ⌜ now res ≡ pastSpaces (now (text .entry)) ⌝ }
 {
-    let start = spaces(text);
+    let start = length_of(true, text);
     &text[start..]
 }
 
@@ -52,7 +68,9 @@ fn past_spaces(text: &[u8]) -> &[u8]
 fn first_word(text: &[u8]) -> &[u8]
     ensures { λ res. ⌜ now res ≡ firstWord (now (text .entry)) ⌝ }
 {
-    up_to(past_spaces(text), SPACE)
+    let from = past_spaces(text);
+    let end = length_of(false, from);
+    &from[..end]
 }
 
 // A text behind its first word.
@@ -60,7 +78,7 @@ fn past_word(text: &[u8]) -> &[u8]
     ensures { λ res. ⌜ now res ≡ pastWord (now (text .entry)) ⌝ }
 {
     let from = past_spaces(text);
-    let end = place(from, SPACE);
+    let end = length_of(false, from);
     &from[end..]
 }
 
