@@ -1,5 +1,6 @@
 // The answer lines. Each function takes how many bytes of the output wait, and answers how many wait then.
 use crate::messages::put_error;
+use crate::messages::put_help;
 use crate::output::put;
 use crate::output::put_next;
 use crate::output::put_next_flag;
@@ -135,27 +136,29 @@ fn put_bench(out: &mut [u8], waiting: usize, b: Bench) -> usize {
     put(out, at, b'\n')
 }
 
-// Which name a command has whose answer is its refusal.
+// Which name a command has whose answer is its refusal. A knob's clicks are a turn.
 fn name_of(c: Command) -> usize {
     match c {
         Command::Send(_) => 0,
         Command::Refresh(_) => 1,
         Command::Turn(_, _) => 2,
+        Command::Knob(_, _) => 2,
         Command::Reading(_) => 3,
         Command::PowerOn => 4,
-        _ => 5,
+        Command::Watch(_) => 5,
+        _ => 6,
     }
 }
 
 fn put_refusal(out: &mut [u8], waiting: usize, c: Command, refusal: u32) -> usize {
-    let names = b"send refresh turn reading power-on damage";
+    let names = b"send refresh turn reading power-on watch damage";
     let at = put_nth(out, waiting, names, name_of(c), 0);
     let end = put_next(out, at, refusal);
     put(out, end, b'\n')
 }
 
 // The answer to what was asked, in a line of its own or more.
-pub(crate) fn put_answer(out: &mut [u8], waiting: usize, t: Taken) -> usize {
+fn put_reply(out: &mut [u8], waiting: usize, t: Taken) -> usize {
     let session = t.session;
     let command = t.command;
     let b = session.bench;
@@ -167,6 +170,18 @@ pub(crate) fn put_answer(out: &mut [u8], waiting: usize, t: Taken) -> usize {
         Command::Pick(side) => put_pick(out, waiting, guidance::pick(b, side)),
         Command::Bench => put_bench(out, waiting, b),
         Command::Panel => put_panel(out, waiting, b),
+        Command::Help => put_help(out, waiting),
         _ => put_refusal(out, waiting, command, t.refusal),
     }
+}
+
+// The answer, and the drawing that follows it while the watch is on.
+pub(crate) fn put_answer(out: &mut [u8], waiting: usize, t: Taken) -> usize {
+    let at = put_reply(out, waiting, t);
+    if t.drawn {
+        let session = t.session;
+        let b = session.bench;
+        return put_panel(out, at, b);
+    }
+    at
 }

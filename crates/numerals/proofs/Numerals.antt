@@ -1,8 +1,8 @@
 -- A numeral is read as the number that it stands for, where that is at most `most`. Assumes nothing.
 use mathlib.Core.Path.{_≡_, refl, sym, ap, _∙_}
-use mathlib.Core.Bool.{_&&_}
+use mathlib.Core.Bool.{Bool, true, false, _&&_, cond}
 use mathlib.Core.List.{List, [], _∷_}
-use Prim.Native.Nat.{ℕ, suc, _+_, _*_, _^_, _≤_}
+use Prim.Native.Nat.{ℕ, suc, _+_, _*_, _^_, _-_, _%_, _≤_, _<_}
 use native.Mathlib.Nat.{zero-mul, zero-add}
 use native.Mathlib.Omega.{arith}
 use borrow.Author.Tests.{le-ltb}
@@ -10,10 +10,12 @@ use lib.Dec.{leb}
 use lib.ListN.{length}
 use Rattle.numerals.specs.declared.Digits.{Digits}
 use Rattle.numerals.specs.declared.Digits.the-variants.{Are, Wrong}
+use Rattle.numerals.specs.declared.answers.Number.{Number}
 use Rattle.numerals.specs.declared.answers.Number.the-variants.{Is, Wrong as No}
 use Rattle.numerals.specs.Digits.{numeralValue, isNumeral}
+use Rattle.numerals.specs.Words.{hasMinus, unsigned}
 use Rattle.numerals.specs.Private.{ifDigits, atMost, numeralIn}
-use Rattle.numerals.specs.Numbers.{numberIn}
+use Rattle.numerals.specs.Numbers.{numberIn, backward, clicksIn}
 use Rattle.numerals.proofs.Reading.{if-picked, read-is, at-most-tells}
 
 pub from-zero : (base n : ℕ) (w : List ℕ) → 0 * base ^ length w + n ≡ n
@@ -38,3 +40,13 @@ number-fits most w n e = go (numeralIn most w) refl (rw (number-is most w) at e)
     go : (d : Digits) → numeralIn most w ≡ d → ifDigits d Is No ≡ Is n → n ≤ most
     go (Are m) f e = let g : m ≡ n = cc in rw g at (numeral-fits most w m f)
     go Wrong f e = absurd (let z : _≡_ {A = ℕ} 0 1 = cc in omega arith)
+
+-- clicks modulo 256 fit a byte
+pub clicks-fit : (w : List ℕ) (n : ℕ) → clicksIn w ≡ Is n → n < 256
+unfolding clicksIn
+clicks-fit w n e = go (hasMinus w) (numberIn 128 (unsigned w)) e
+  where
+    go : (back : Bool) (b : Number) → cond back (backward b) (numberIn 127 (unsigned w)) ≡ Is n → n < 256
+    go true (Is m) e = let g : (256 - m % 256) % 256 ≡ n = cc in omega arith
+    go true No e = absurd (let z : _≡_ {A = ℕ} 0 1 = cc in omega arith)
+    go false b e = omega (arith, number-fits 127 (unsigned w) n e)

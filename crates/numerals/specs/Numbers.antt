@@ -12,9 +12,12 @@ use Rattle.numerals.specs.declared.answers.Number.the-variants.{Is, Wron
 unfoldable pub numberIn : ℕ → List ℕ → Number
 numberIn most w = cond (isNumeral 10 w && leb (numeralValue 10 w) most) (Is (numeralValue 10 w)) Wrong
 
--- so many clicks back, modulo 256
+-- n clicks back, modulo 256
+abbrev pub clicksBack : ℕ → ℕ
+clicksBack n = (256 - n % 256) % 256
+
 abbrev pub backward : Number → Number
-backward (Is n) = Is ((256 - n % 256) % 256)
+backward (Is n) = Is (clicksBack n)
 backward Wrong = Wrong
 
 -- clicks from -128 to 127, modulo 256: what they add to a count

@@ -5,12 +5,15 @@ use Rattle.numerals.specs.Digits.{allDigits, numeralValue, isNumeral}
 use Rattle.numerals.specs.Numbers.{numberIn}
 use Rattle.numerals.specs.Integers.{signedAs}
 use Rattle.numerals.specs.Values.{patternOf, decimalAs}
-use Rattle.scripts.specs.Commands.{commandNames, kindNames, damageNames, partNames, withWords, withNumber, turnBy, turnOf, readingAt, figureAt, setBy}
+use Rattle.numerals.specs.Numbers.{clicksIn}
+use Rattle.scripts.specs.Commands.{commandNames, eventNames, sideNames, knobNames, kindNames, watchNames, damageNames, partNames, endsAt, namedIn}
+use Rattle.scripts.specs.Commands.{eventOf, withSide, knobAt, turnBy, turnOf, clicksBy, clicksOf, eventNamed, pressBy, signalBy, watchBy, readingAt, figureAt, setBy}
 use Rattle.scripts.specs.Commands.{damagePf, damageSet, damageReference, damagePart, damageBy, commandBy, commandIn, commandOf}
 use Rattle.scripts.specs.Lines.{Lines}
 
 pub lines : Lines
-unfolding upTo pastSpaces firstWord pastWord wordOf allDigits numeralValue isNumeral numberIn signedAs patternOf decimalAs
-    commandNames kindNames damageNames partNames withWords withNumber turnBy turnOf readingAt figureAt setBy
+unfolding upTo pastSpaces firstWord pastWord wordOf allDigits numeralValue isNumeral numberIn clicksIn signedAs patternOf decimalAs
+    commandNames eventNames sideNames knobNames kindNames watchNames damageNames partNames endsAt namedIn
+    eventOf withSide knobAt turnBy turnOf clicksBy clicksOf eventNamed pressBy signalBy watchBy readingAt figureAt setBy
     damagePf damageSet damageReference damagePart damageBy commandBy commandIn commandOf
 lines = record { each = refl }

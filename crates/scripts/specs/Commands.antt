@@ -1,8 +1,8 @@
--- What a line of a script asks for, or what is wrong with it. The console's page, 'Script', which docs/MANUAL.md has as its section 5.
-use Prim.Native.Nat.{ℕ, _+_, _-_}
+-- What a line of a script asks for, or what is wrong with it. The console's page, 'Script' and 'Words for people', which docs/MANUAL.md has as its section 5.
+use Prim.Native.Nat.{ℕ, _+_, _^_}
 use Prim.Native.Char.{code}
 use Prim.Native.String.{String, [] as nil, _∷_ as _then_}
-use mathlib.Core.Bool.{Bool, _&&_, cond}
+use mathlib.Core.Bool.{Bool, not, _&&_, _||_, cond}
 use mathlib.Core.List.{List, [], _∷_}
 use lib.Dec.{eqb, leb, ltb}
 use lib.Ieee.{Float}
@@ -18,61 +18,98 @@ use Rattle.words.specs.Words.{upTo, wordOf, lookupOf}
 use Rattle.numerals.specs.declared.answers.Number.{Number}
 use Rattle.numerals.specs.declared.answers.Signed.{Signed}
 use Rattle.numerals.specs.declared.answers.Value.{Value}
-use Rattle.numerals.specs.Numbers.{numberIn}
+use Rattle.numerals.specs.Numbers.{numberIn, clicksIn}
 use Rattle.numerals.specs.Integers.{signedIn}
 use Rattle.numerals.specs.Values.{valueIn}
 use Rattle.scripts.specs.declared.Command.{Command}
-use Rattle.scripts.specs.declared.Named.{Named}
-use Rattle.scripts.specs.declared.Given.{Given}
+use Rattle.scripts.specs.declared.places.Named.{Named}
+use Rattle.scripts.specs.declared.damage.Given.{Given}
 
 -- a text as its bytes
 abbrev pub bytes : String → List ℕ
 bytes nil = []
 bytes (c then s) = code c ∷ bytes s
 
--- ---- what can be wrong with a line, by the numbers of the crate's constants. `commandOf` never answers 1, a line that is too long: that is for who reads the line
+-- ---- what can be wrong with a line, by the numbers of the crate's constants: the place that the line went wrong in. `commandOf` never answers 1, a line that is too
+-- long: that is for who reads the line
 
 abbrev pub noCommand : ℕ
 noCommand = 2
 
-abbrev pub tooFew : ℕ
-tooFew = 3
-
 abbrev pub tooMany : ℕ
-tooMany = 4
+tooMany = 3
 
-abbrev pub noNumber : ℕ
-noNumber = 5
+abbrev pub noWord : ℕ
+noWord = 4
 
-abbrev pub noByte : ℕ
-noByte = 6
+abbrev pub noSide : ℕ
+noSide = 5
+
+abbrev pub noKnobNumber : ℕ
+noKnobNumber = 6
+
+abbrev pub noCount : ℕ
+noCount = 7
+
+abbrev pub noKnob : ℕ
+noKnob = 8
+
+abbrev pub noClicks : ℕ
+noClicks = 9
+
+abbrev pub noSwitch : ℕ
+noSwitch = 10
+
+abbrev pub noSignal : ℕ
+noSignal = 11
+
+abbrev pub noWatch : ℕ
+noWatch = 12
 
 abbrev pub noKind : ℕ
-noKind = 7
+noKind = 13
 
 abbrev pub noValue : ℕ
-noValue = 8
+noValue = 14
 
-abbrev pub noBox : ℕ
-noBox = 9
+abbrev pub noDamage : ℕ
+noDamage = 15
+
+abbrev pub noPf : ℕ
+noPf = 16
 
 abbrev pub noReference : ℕ
-noReference = 10
+noReference = 17
 
 abbrev pub noSigned : ℕ
-noSigned = 11
+noSigned = 18
 
 abbrev pub noSet : ℕ
-noSet = 12
+noSet = 19
 
 -- ---- the names, in the order of their numbers from 0
 
 unfoldable pub commandNames : List ℕ
-commandNames = bytes "event send refresh display pick turn reading power-on bench panel damage"
+commandNames = bytes "event send refresh display pick turn knob reading press signal power-on bench panel help watch damage"
+
+-- the events, which are switches and signals
+unfoldable pub eventNames : List ℕ
+eventNames =
+    bytes
+    "ap-disconnect ap overspeed-begins overspeed-ends go-around transfer fd-left fd-right source-changed nav-captured lappr-captured vappr-captured altsel-captured altsel-on-track hdg nav appr vs flc alt"
+
+unfoldable pub sideNames : List ℕ
+sideNames = bytes "left right"
+
+unfoldable pub knobNames : List ℕ
+knobNames = bytes "wheel altitude speed heading"
 
 -- kinds of readings
 unfoldable pub kindNames : List ℕ
 kindNames = bytes "altitude airspeed vertical-speed roll pitch heading"
+
+unfoldable pub watchNames : List ℕ
+watchNames = bytes "off on"
 
 -- boxes, and the two other things that can be damaged
 unfoldable pub damageNames : List ℕ
@@ -82,16 +119,14 @@ damageNames = bytes "left right left-inbox right-inbox reading pf"
 unfoldable pub partNames : List ℕ
 partNames = bytes "heading preselected held vertical-speed ias roll pitch set"
 
--- ---- the number of words
+-- ---- the end of a command. A word that is missing is an empty one, which no place accepts
 
 abbrev pub absent : List ℕ → ℕ → Bool
 absent text n = eqb (length (wordOf text n)) 0
 
--- what is asked, of a text that has so many words, no fewer and no more
-unfoldable pub withWords : List ℕ → ℕ → Command → Command
-withWords text wanted asked =
-    cond (absent text (wanted - 1)) (Command.Wrong tooFew)
-    (cond (absent text wanted) asked (Command.Wrong tooMany))
+-- what is asked, of a text that has no word behind its first n
+unfoldable pub endsAt : List ℕ → ℕ → Command → Command
+endsAt text n asked = cond (absent text n) asked (Command.Wrong tooMany)
 
 -- ---- numbers: event words, knobs and sides have 32 bits, a count has 8
 
@@ -99,29 +134,70 @@ withWords text wanted asked =
 abbrev pub numberAt : List ℕ → ℕ → ℕ → Number
 numberAt text n most = numberIn most (wordOf text n)
 
+-- a word as one of so many names, or else as a number of at most `most`
+unfoldable pub namedIn : List ℕ → ℕ → ℕ → List ℕ → Number
+namedIn names total most w = cond (ltb (lookupOf w names total) total) (Number.Is (lookupOf w names total)) (numberIn most w)
+
 abbrev pub ifNumber : Number → (ℕ → Command) → Command → Command
 ifNumber (Number.Is n) ask other = ask n
 ifNumber Number.Wrong ask other = other
 
--- a command with one number
-unfoldable pub withNumber : (ℕ → Command) → List ℕ → Command
-withNumber ask text = ifNumber (numberAt text 1 4294967295) ask (Command.Wrong noNumber)
+-- event WORD
+unfoldable pub eventOf : List ℕ → Command
+eventOf text = ifNumber (numberAt text 1 4294967295) (λ n. endsAt text 2 (Command.Event n)) (Command.Wrong noWord)
 
--- event WORD, send SIDE, refresh SIDE, display SIDE, pick SIDE, by the number of a name of commandNames
-abbrev pub oneNumberBy : ℕ → ℕ → Command
-oneNumberBy command n =
-    cond (eqb command 0) (Command.Event n)
-    (cond (eqb command 1) (Command.Send n)
+-- send SIDE, refresh SIDE, display SIDE, pick SIDE, by the number of a name of commandNames
+abbrev pub sideBy : ℕ → ℕ → Command
+sideBy command n =
+    cond (eqb command 1) (Command.Send n)
     (cond (eqb command 2) (Command.Refresh n)
     (cond (eqb command 3) (Command.Display n)
-    (Command.Pick n))))
+    (Command.Pick n)))
+
+unfoldable pub withSide : ℕ → List ℕ → Command
+withSide command text = ifNumber (namedIn sideNames 2 4294967295 (wordOf text 1)) (λ n. endsAt text 2 (sideBy command n)) (Command.Wrong noSide)
+
+-- a knob by its name, or by a number of at most `most`
+unfoldable pub knobAt : List ℕ → ℕ → Number
+knobAt text most = namedIn knobNames 4 most (wordOf text 1)
 
 -- turn KNOB COUNT
 unfoldable pub turnBy : ℕ → List ℕ → Command
-turnBy knob text = ifNumber (numberAt text 2 255) (Command.Turn knob) (Command.Wrong noByte)
+turnBy knob text = ifNumber (numberAt text 2 255) (λ n. endsAt text 3 (Command.Turn knob n)) (Command.Wrong noCount)
 
 unfoldable pub turnOf : List ℕ → Command
-turnOf text = withNumber (λ knob. turnBy knob text) text
+turnOf text = ifNumber (knobAt text 4294967295) (λ knob. turnBy knob text) (Command.Wrong noKnobNumber)
+
+-- knob KNOB CLICKS, of one of the four knobs; the clicks are kept modulo 256
+unfoldable pub clicksBy : ℕ → List ℕ → Command
+clicksBy knob text = ifNumber (clicksIn (wordOf text 2)) (λ n. endsAt text 3 (Command.Knob knob n)) (Command.Wrong noClicks)
+
+unfoldable pub clicksOf : List ℕ → Command
+clicksOf text = ifNumber (knobAt text 3) (λ knob. clicksBy knob text) (Command.Wrong noKnob)
+
+-- ---- press SWITCH and signal SIGNAL: the event of that name alone, as the word with its bit
+
+-- the events that no switch makes
+abbrev pub isSignal : ℕ → Bool
+isSignal n = leb 2 n && leb n 3 || leb 8 n && leb n 13
+
+abbrev pub isSwitch : ℕ → Bool
+isSwitch n = leb n 19 && not (isSignal n)
+
+unfoldable pub pressBy : ℕ → List ℕ → Command
+pressBy n text = cond (isSwitch n) (endsAt text 2 (Command.Event (2 ^ n))) (Command.Wrong noSwitch)
+
+unfoldable pub signalBy : ℕ → List ℕ → Command
+signalBy n text = cond (isSignal n) (endsAt text 2 (Command.Event (2 ^ n))) (Command.Wrong noSignal)
+
+-- the event whose name word 1 is; 20 where it is none's
+unfoldable pub eventNamed : List ℕ → ℕ
+eventNamed text = lookupOf (wordOf text 1) eventNames 20
+
+-- ---- watch on, watch off
+
+unfoldable pub watchBy : ℕ → List ℕ → Command
+watchBy n text = cond (ltb n 2) (endsAt text 2 (Command.Watch (eqb n 1))) (Command.Wrong noWatch)
 
 -- ---- readings: reading KIND VALUE, and damage reading KIND VALUE
 
@@ -208,11 +284,12 @@ ifSet Given.Wrong ask = Command.Wrong noSet
 
 -- damage pf N
 unfoldable pub damagePf : List ℕ → Command
-damagePf text = ifNumber (numberAt text 2 255) Command.DamagePf (Command.Wrong noByte)
+damagePf text = ifNumber (numberAt text 2 255) (λ n. endsAt text 3 (Command.DamagePf n)) (Command.Wrong noPf)
 
 -- damage BOX set LATERAL ARMED VERTICAL VAPPR-ARMED
 unfoldable pub damageSet : ℕ → List ℕ → Command
-damageSet box text = ifSet (setBy (figureAt text 3) (figureAt text 4) (figureAt text 5) (figureAt text 6)) (Command.DamageSet box)
+damageSet box text =
+    ifSet (setBy (figureAt text 3) (figureAt text 4) (figureAt text 5) (figureAt text 6)) (λ set. endsAt text 7 (Command.DamageSet box set))
 
 abbrev pub ifSigned : Signed → (ℤ → Command) → Command
 ifSigned (Signed.Is x) ask = ask x
@@ -220,40 +297,46 @@ ifSigned Signed.Wrong ask = Command.Wrong noSigned
 
 -- damage BOX REFERENCE N, a signed number of 32 bits
 unfoldable pub damageReference : ℕ → ℕ → List ℕ → Command
-damageReference box reference text = ifSigned (signedIn (wordOf text 3)) (Command.DamageReference box reference)
+damageReference box reference text = ifSigned (signedIn (wordOf text 3)) (λ x. endsAt text 4 (Command.DamageReference box reference x))
 
 -- by the number of a name of partNames
 unfoldable pub damagePart : ℕ → ℕ → List ℕ → Command
 damagePart what box text =
-    cond (ltb what 7) (withWords text 4 (damageReference box what text))
-    (cond (eqb what 7) (withWords text 7 (damageSet box text))
+    cond (ltb what 7) (damageReference box what text)
+    (cond (eqb what 7) (damageSet box text)
     (Command.Wrong noReference))
 
 -- by the number of a name of damageNames
 unfoldable pub damageBy : ℕ → List ℕ → Command
 damageBy what text =
     cond (ltb what 4) (damagePart (lookupOf (wordOf text 2) partNames 8) what text)
-    (cond (eqb what 4) (withWords text 4 (ifReading (readingAt text 2) Command.DamageReading))
-    (cond (eqb what 5) (withWords text 3 (damagePf text))
-    (Command.Wrong noBox)))
+    (cond (eqb what 4) (ifReading (readingAt text 2) (λ r. endsAt text 4 (Command.DamageReading r)))
+    (cond (eqb what 5) (damagePf text)
+    (Command.Wrong noDamage)))
 
 -- ---- commands
 
--- by the number of a name of commandNames: the table of commands, with the number of words of each
+-- by the number of a name of commandNames: the table of commands
 unfoldable pub commandBy : ℕ → List ℕ → Command
 commandBy command text =
-    cond (ltb command 5) (withWords text 2 (withNumber (oneNumberBy command) text))
-    (cond (eqb command 5) (withWords text 3 (turnOf text))
-    (cond (eqb command 6) (withWords text 3 (ifReading (readingAt text 1) Command.Reading))
-    (cond (eqb command 7) (withWords text 1 Command.PowerOn)
-    (cond (eqb command 8) (withWords text 1 Command.Bench)
-    (cond (eqb command 9) (withWords text 1 Command.Panel)
-    (cond (eqb command 10) (damageBy (lookupOf (wordOf text 1) damageNames 6) text)
-    (Command.Wrong noCommand)))))))
+    cond (eqb command 0) (eventOf text)
+    (cond (ltb command 5) (withSide command text)
+    (cond (eqb command 5) (turnOf text)
+    (cond (eqb command 6) (clicksOf text)
+    (cond (eqb command 7) (ifReading (readingAt text 1) (λ r. endsAt text 3 (Command.Reading r)))
+    (cond (eqb command 8) (pressBy (eventNamed text) text)
+    (cond (eqb command 9) (signalBy (eventNamed text) text)
+    (cond (eqb command 10) (endsAt text 1 Command.PowerOn)
+    (cond (eqb command 11) (endsAt text 1 Command.Bench)
+    (cond (eqb command 12) (endsAt text 1 Command.Panel)
+    (cond (eqb command 13) (endsAt text 1 Command.Help)
+    (cond (eqb command 14) (watchBy (lookupOf (wordOf text 1) watchNames 2) text)
+    (cond (eqb command 15) (damageBy (lookupOf (wordOf text 1) damageNames 6) text)
+    (Command.Wrong noCommand)))))))))))))
 
 -- a line without a word asks for nothing
 unfoldable pub commandIn : List ℕ → Command
-commandIn text = cond (absent text 0) Command.Blank (commandBy (lookupOf (wordOf text 0) commandNames 11) text)
+commandIn text = cond (absent text 0) Command.Blank (commandBy (lookupOf (wordOf text 0) commandNames 16) text)
 
 -- byte 35, '#', starts a comment
 unfoldable pub commandOf : List ℕ → Command

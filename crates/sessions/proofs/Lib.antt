@@ -1,3 +1,4 @@
 pub mod Lines
 pub mod Rooms
+pub mod Clicks
 pub mod Laws

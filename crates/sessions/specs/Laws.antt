@@ -1,15 +1,20 @@
 -- The laws of sessions: a session that was fed a script has the bench that the script means. `session-laws` of `proofs/Laws.antt` proves them.
 use mathlib.Core.Path.{_≡_}
+use mathlib.Core.Bool.{Bool, cond}
 use mathlib.Core.List.{List, [], _∷_, _++_, flatten}
-use Prim.Native.Nat.{ℕ, _%_, _^_, min}
+use Prim.Native.Nat.{ℕ, _+_, _%_, _^_, _<_, _≤_, min}
 use lib.ListN.{length, take, getD}
-use Rattle.sessions.specs.Script.{linesOf, allLines, asked, benchOf}
+use Rattle.rounding.specs.Whole.{signedOf}
+use Rattle.numerals.specs.Numbers.{clicksBack}
+use Rattle.rotation.specs.Rotation.{rotationOf}
+use Rattle.sessions.specs.Script.{linesOf, allLines, asked, benchOf, watchOf}
 use Rattle.sessions.specs.Sessions.{beginning, carriedOut, byteTaken, scriptEnded, Held, fedAll}
 
 -- a session and its room, which have read a script
 pub record HasRead (script : List ℕ) (h : Held) : Type 0 where
-  -- the bench is the one that the ended lines leave, and they are counted
+  -- bench and watch are those that the ended lines leave, and they are counted
   pub bench : h .session .bench ≡ benchOf (linesOf script .ended)
+  pub watch : h .session .watch ≡ watchOf (linesOf script .ended)
   pub counted : h .session .lines ≡ length (linesOf script .ended) % 2 ^ 64
   -- what follows the last line end is kept, up to 256 bytes
   pub filled : h .session .length ≡ min 256 (length (linesOf script .last))
@@ -24,6 +29,10 @@ abbrev pub written : List (List ℕ) → List ℕ → List ℕ
 written [] last = last
 written (line ∷ more) last = line ++ 10 ∷ written more last
 
+-- n clicks, back or forward, modulo 256
+abbrev pub clicksOf : Bool → ℕ → ℕ
+clicksOf back n = cond back (clicksBack n) n
+
 pub record SessionLaws : Type 0 where
   -- a session that begins with a room of 256 bytes, whatever they are, reads every script, in whatever pieces it comes
   pub reads : (room : List ℕ) → length room ≡ 256 → (pieces : List (List ℕ)) → HasRead (flatten pieces) (fedAll beginning room pieces)
@@ -31,3 +40,5 @@ pub record SessionLaws : Type 0 where
   pub whole : (script : List ℕ) → written (linesOf script .ended) (linesOf script .last) ≡ script
   pub no-end : (script : List ℕ) (k i : ℕ) → getD (getD (linesOf script .ended) k []) i 0 ≡ 10 → ⊥
   pub no-end-last : (script : List ℕ) (i : ℕ) → getD (linesOf script .last) i 0 ≡ 10 → ⊥
+  -- a knob line turns its knob by its clicks: back by 128 at most, or forward by 127
+  pub turns : (last : ℕ) (back : Bool) (n : ℕ) → last < 256 → n ≤ cond back 128 127 → rotationOf last ((last + clicksOf back n) % 256) ≡ signedOf back n

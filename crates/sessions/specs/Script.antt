@@ -1,5 +1,5 @@
 -- What a script means, from its bytes: its lines, what each asks for, and the bench that they leave. The console's page, 'Script'. How the bytes are read is no part of it.
-use mathlib.Core.Bool.{cond}
+use mathlib.Core.Bool.{Bool, false, cond}
 use mathlib.Core.List.{List, [], _∷_, _++_}
 use Prim.Native.Nat.{ℕ}
 use lib.Dec.{eqb, leb}
@@ -8,7 +8,7 @@ use Rattle.scripts.specs.Commands.{commandOf}
 use Rattle.scripts.specs.declared.Command.{Command}
 use Rattle.bench.specs.declared.Bench.{Bench}
 use Rattle.bench.specs.Holds.{powerOn}
-use Rattle.sessions.specs.Acts.{benchAfter}
+use Rattle.sessions.specs.Acts.{benchAfter, effectOf, watchAfter}
 
 -- ---- lines
 
@@ -52,3 +52,11 @@ carried (line ∷ more) b = carried more (benchAfter (asked line) b)
 -- the same from power-on, where a script begins
 abbrev pub benchOf : List (List ℕ) → Bench
 benchOf lines = carried lines powerOn
+
+-- the watch after lines, which is off where a script begins
+abbrev pub watched : List (List ℕ) → Bool → Bool
+watched [] watch = watch
+watched (line ∷ more) watch = watched more (watchAfter (effectOf (asked line)) watch)
+
+abbrev pub watchOf : List (List ℕ) → Bool
+watchOf lines = watched lines false

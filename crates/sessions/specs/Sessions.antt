@@ -1,5 +1,5 @@
 -- A session byte by byte, as the contracts cite it. What a script means is in Script, and that a session comes to it in Laws.
-use mathlib.Core.Bool.{cond}
+use mathlib.Core.Bool.{Bool, false, cond}
 use mathlib.Core.List.{List, [], _∷_}
 use Prim.Native.Nat.{ℕ, _+_, _%_, _^_}
 use lib.Dec.{eqb, leb, ltb}
@@ -10,11 +10,11 @@ use Rattle.bench.specs.Holds.{powerOn}
 use Rattle.calls.specs.declared.answers.EventAnswer.{EventAnswer}
 use Rattle.sessions.specs.declared.Session.{Session}
 use Rattle.sessions.specs.declared.Taken.{Taken}
-use Rattle.sessions.specs.Acts.{answerTo}
+use Rattle.sessions.specs.Acts.{answerTo, effectOf, watchAfter, isDrawn}
 
--- a session begins with the bench of power-on and no line
+-- a session begins with the bench of power-on, no line, and the watch off
 abbrev pub beginning : Session
-beginning = record { bench = powerOn; lines = 0; length = 0 }
+beginning = record { bench = powerOn; lines = 0; length = 0; watch = false }
 
 -- ---- a line end
 
@@ -22,19 +22,31 @@ beginning = record { bench = powerOn; lines = 0; length = 0 }
 unfoldable pub lineCommand : ℕ → List ℕ → Command
 lineCommand n room = cond (leb (length room) n) (Command.Wrong 1) (commandOf (take n room))
 
--- the line of this number asked for c and was answered; the next one begins
-abbrev pub answered : ℕ → Command → EventAnswer → Taken
-answered line c a = record { session = record { bench = a .bench; lines = line; length = 0 }; command = c; refusal = a .refusal; event = a .event }
+-- the line of this number asked for c and was answered, with the watch as it was; the next one begins
+abbrev pub answered : ℕ → Bool → Command → EventAnswer → Taken
+answered line watch c a = record {
+  session = record { bench = a .bench; lines = line; length = 0; watch = watchAfter (effectOf c) watch };
+  command = c;
+  refusal = a .refusal;
+  event = a .event;
+  drawn = isDrawn (effectOf c) watch;
+}
 
 -- a line that asks for c is counted, and carried out on the session's bench
 unfoldable pub carriedOut : Session → Command → Taken
-carriedOut s c = answered ((s .lines + 1) % 2 ^ 64) c (answerTo c (s .bench))
+carriedOut s c = answered ((s .lines + 1) % 2 ^ 64) (s .watch) c (answerTo c (s .bench))
 
 -- ---- inside a line
 
 -- nothing is asked while a line goes on, which has n bytes now
 abbrev pub goesOn : Session → ℕ → Taken
-goesOn s n = record { session = record { bench = s .bench; lines = s .lines; length = n }; command = Command.Blank; refusal = 0; event = 32 }
+goesOn s n = record {
+  session = record { bench = s .bench; lines = s .lines; length = n; watch = s .watch };
+  command = Command.Blank;
+  refusal = 0;
+  event = 32;
+  drawn = false;
+}
 
 -- how many bytes are kept of n and one more
 abbrev pub oneMore : ℕ → List ℕ → ℕ

@@ -1,6 +1,6 @@
 // What a command does to the bench, and what it answers.
 ghost use mathlib.Core.Path.{_≡_};
-ghost use Rattle.sessions.specs.Acts.{eventless, leaves, answerTo};
+ghost use Rattle.sessions.specs.Acts.{eventless, leaves, clicked, effectOf, watchAfter, isDrawn, answerTo};
 use crate::damage::damage_pf;
 use crate::damage::damage_reading;
 use crate::damage::damage_reference;
@@ -33,6 +33,72 @@ fn bench_alone(bench: Bench) -> EventAnswer
     }
 }
 
+// The turn of a knob by so many clicks, modulo 256, from its last count.
+fn click(b: Bench, knob: u32, clicks: u8) -> Answer
+    ensures { λ res. ⌜ res ≡ clicked knob clicks b ⌝ }
+{
+    let counts = b.counts;
+    let last = bench::parts::count_of(counts, knob);
+    let count = std::num::wrapping_add_u8(last, clicks);
+    calls::turn(b, knob, count)
+}
+
+// What a command is for, beside its answer: it shows something, it can change the bench, or it turns the
+// watch on or off.
+pub(crate) enum Effect {
+    Shows,
+    Acts,
+    Watches(bool),
+}
+
+pub(crate) fn effect_of(c: Command) -> Effect
+    ensures { λ res. ⌜ res ≡ effectOf c ⌝ }
+{
+    match c {
+        Command::Blank => Effect::Shows,
+        Command::Wrong(_) => Effect::Shows,
+        Command::Event(_) => Effect::Acts,
+        Command::Send(_) => Effect::Acts,
+        Command::Refresh(_) => Effect::Acts,
+        Command::Display(_) => Effect::Shows,
+        Command::Pick(_) => Effect::Shows,
+        Command::Turn(_, _) => Effect::Acts,
+        Command::Knob(_, _) => Effect::Acts,
+        Command::Reading(_) => Effect::Acts,
+        Command::PowerOn => Effect::Acts,
+        Command::Bench => Effect::Shows,
+        Command::Panel => Effect::Shows,
+        Command::Help => Effect::Shows,
+        Command::Watch(on) => Effect::Watches(on),
+        Command::DamagePf(_) => Effect::Acts,
+        Command::DamageReading(_) => Effect::Acts,
+        Command::DamageSet(_, _) => Effect::Acts,
+        Command::DamageReference(_, _, _) => Effect::Acts,
+    }
+}
+
+// The watch after a command, from the one before it.
+pub(crate) fn watch_after(effect: Effect, watch: bool) -> bool
+    ensures { λ res. ⌜ res ≡ watchAfter effect watch ⌝ }
+{
+    match effect {
+        Effect::Shows => watch,
+        Effect::Acts => watch,
+        Effect::Watches(on) => on,
+    }
+}
+
+// Whether a drawing follows a command's answer.
+pub(crate) fn is_drawn(effect: Effect, watch: bool) -> bool
+    ensures { λ res. ⌜ res ≡ isDrawn effect watch ⌝ }
+{
+    match effect {
+        Effect::Shows => false,
+        Effect::Acts => watch,
+        Effect::Watches(_) => false,
+    }
+}
+
 // The answer to a command: its refusal, the event acted on or 32, and the bench. What only shows
 // leaves the bench, and is asked for where its line is written.
 pub(crate) fn answer_to(b: Bench, c: Command) -> EventAnswer
@@ -47,10 +113,13 @@ pub(crate) fn answer_to(b: Bench, c: Command) -> EventAnswer
         Command::Display(_) => bench_alone(b),
         Command::Pick(_) => bench_alone(b),
         Command::Turn(knob, count) => plain(calls::turn(b, knob, count)),
+        Command::Knob(knob, clicks) => plain(click(b, knob, clicks)),
         Command::Reading(r) => plain(calls::reading(b, r)),
         Command::PowerOn => bench_alone(bench::power_on()),
         Command::Bench => bench_alone(b),
         Command::Panel => bench_alone(b),
+        Command::Help => bench_alone(b),
+        Command::Watch(_) => bench_alone(b),
         Command::DamagePf(n) => bench_alone(damage_pf(b, n)),
         Command::DamageReading(r) => bench_alone(damage_reading(b, r)),
         Command::DamageSet(n, set) => bench_alone(damage_set(b, n, set)),

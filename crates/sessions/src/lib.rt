@@ -16,15 +16,18 @@ pub struct Session {
     pub lines: u64,
     // bytes of the line that is being read; a line that fills its room is too long
     pub length: usize,
+    // while it is on, a drawing follows each answer of a command that can change the bench
+    pub watch: bool,
 }
 
-// The session after a byte, and what was asked: the command of a line that ended, with its refusal and
-// the event acted on or 32. Inside a line it is `Blank`.
+// The session after a byte, and what was asked: the command of a line that ended, with its refusal, the
+// event acted on or 32, and whether a drawing follows. Inside a line it is `Blank`.
 pub struct Taken {
     pub session: Session,
     pub command: Command,
     pub refusal: u32,
     pub event: u32,
+    pub drawn: bool,
 }
 
 // A session in front of a script's first byte.
@@ -36,6 +39,7 @@ pub fn begin() -> Session
         bench,
         lines: 0,
         length: 0,
+        watch: false,
     }
 }
 
@@ -47,16 +51,19 @@ fn carry_out(s: Session, command: Command) -> Taken
     let lines = std::num::wrapping_add_u64(s.lines, 1);
     let a = acts::answer_to(b, command);
     let bench = a.bench;
+    let effect = acts::effect_of(command);
     let session = Session {
         bench,
         lines,
         length: 0,
+        watch: acts::watch_after(effect, s.watch),
     };
     Taken {
         session,
         command,
         refusal: a.refusal,
         event: a.event,
+        drawn: acts::is_drawn(effect, s.watch),
     }
 }
 
@@ -100,6 +107,7 @@ fn go_on(s: Session, length: usize) -> Taken
         command: Command::Blank,
         refusal: 0,
         event: 32,
+        drawn: false,
     }
 }
 

@@ -9,24 +9,36 @@ pub command-by-spec : {M : Type 1} → statement M
 unfolding commandBy
 command-by-spec =
     tie.close (tie.spec
-    (λ c κs. search needs) (λ c κs. search needs)
-    (λ c. rw (lt-ltb _ _ (c .before .before .if1 .taken), c .with-words .ensures, c .before .of-number .ensures))
-    (λ c κs. search needs) (λ c κs. search needs) (λ c κs. search needs) (λ c κs. search needs) (λ c κs. search needs) (λ c κs. search needs)
-    (λ c κs. search needs) (λ c κs. search needs)
-    (λ c. rw (c .before .before .match .keys1, c .with-words2 .ensures, c .before .turn .ensures))
-    (λ c. rw (c .before .before .match .keys2, c .with-words3 .ensures, c .before .reading .ensures))
-    (λ c. rw (c .before .match .keys3) (c .with-words4 .ensures))
-    (λ c. rw (c .before .match .keys4) (c .with-words5 .ensures))
-    (λ c. rw (c .before .match .keys5) (c .with-words6 .ensures))
-    (λ c. rw (c .before .match .keys6) (c .damage .ensures))
+    (λ c κs. search needs) (λ c κs. search needs) (λ c κs. search needs) (λ c κs. search needs) (λ c κs. search needs) (λ c κs. search needs) (λ c κs. search needs) (λ c κs. search needs) (λ c κs. search needs) (λ c κs. search needs) (λ c κs. search needs) (λ c κs. search needs) (λ c κs. search needs) (λ c κs. search needs) (λ c κs. search needs)
+    (λ c. rw (c .before .match .keys1) (c .event .ensures))
+    (λ c. rw (c .before .match .keys2) (c .turn .ensures))
+    (λ c. rw (c .before .match .keys3) (c .clicks .ensures))
+    (λ c. rw (c .before .match .keys4) (c .reading .ensures))
+    (λ c. rw (c .before .before .match .keys5, c .press-by .ensures, c .before .event-named .ensures))
+    (λ c. rw (c .before .before .match .keys6, c .signal-by .ensures, c .before .event-named2 .ensures))
+    (λ c. rw (c .before .match .keys7) (c .ends-at .ensures))
+    (λ c. rw (c .before .match .keys8) (c .ends-at2 .ensures))
+    (λ c. rw (c .before .match .keys9) (c .ends-at3 .ensures))
+    (λ c. rw (c .before .match .keys10) (c .ends-at4 .ensures))
+    (λ c. rw (c .before .match .keys11) (c .watch .ensures))
+    (λ c. rw (c .before .match .keys12) (c .damage .ensures))
     (λ c.
-    let r = c .match .rest in
+    let r = c .before .before .match .rest in
+    rw (ne-eqb _ _ (r .0 .0 .0 .0 .0 .0 .0 .0 .0 .0 .0 .1), lt-ltb _ _ (c .before .if1 .taken)) (c .of-side .ensures))
+    (λ c.
+    let r = c .before .match .rest in
     simp (
-      le-ltb _ _ (c .before .if1 .left),
+      le-ltb _ _ (c .if1 .left),
       ne-eqb _ _ (r .1),
       ne-eqb _ _ (r .0 .1),
       ne-eqb _ _ (r .0 .0 .1),
       ne-eqb _ _ (r .0 .0 .0 .1),
       ne-eqb _ _ (r .0 .0 .0 .0 .1),
       ne-eqb _ _ (r .0 .0 .0 .0 .0 .1),
+      ne-eqb _ _ (r .0 .0 .0 .0 .0 .0 .1),
+      ne-eqb _ _ (r .0 .0 .0 .0 .0 .0 .0 .1),
+      ne-eqb _ _ (r .0 .0 .0 .0 .0 .0 .0 .0 .1),
+      ne-eqb _ _ (r .0 .0 .0 .0 .0 .0 .0 .0 .0 .1),
+      ne-eqb _ _ (r .0 .0 .0 .0 .0 .0 .0 .0 .0 .0 .1),
+      ne-eqb _ _ (r .0 .0 .0 .0 .0 .0 .0 .0 .0 .0 .0 .1),
     )))

@@ -4,8 +4,8 @@ use native.Mathlib.Omega.{arith}
 use denote.Ref.{now}
 use Rattle.words.specs.Words.{wordOf}
 use Rattle.numerals.proofs.Numerals.{number-fits}
-use borrow.Author.Needs.{needs}
 use Rattle.scripts.specs.Commands.{turnBy}
+use borrow.Author.Needs.{needs}
 use Rattle.scripts.proofs.turn_by.Statement.{statement}
 use Rattle.scripts.proofs.turn_by.Tie as tie
 
@@ -19,6 +19,6 @@ pub turn-by-spec : {M : Type 1} → statement M
 unfolding turnBy
 turn-by-spec =
     tie.close (tie.spec
-    (λ c κs. search needs) (λ c. search needs) cast-small (λ c. search needs)
-    (λ c. rw (← c .before .before .before .number-at .ensures, c .before .count .given .1))
+    (λ c κs. search needs) (λ c. search needs) cast-small (λ c κs. search needs) (λ c. search needs)
+    (λ c. let d = c .before .before in rw (← d .before .before .number-at .ensures, d .count .given .1) (c .ends-at .ensures))
     (λ c. rw (← c .before .before .number-at .ensures, c .enum-told .given .1)))

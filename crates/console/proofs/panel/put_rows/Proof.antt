@@ -7,10 +7,10 @@ use Rattle.console.proofs.panel.put_rows.Statement.{statement}
 use Rattle.console.proofs.panel.put_rows.Tie as tie
 
 abbrev Inv-loop : tie.InvT-loop
-Inv-loop out₀ waiting left right at₀ row₀ t7 out at row = (row ≤ 12) × (length out ≡ length out₀)
+Inv-loop out₀ waiting left right at₀ row₀ t7 out at row = (row ≤ 17) × (length out ≡ length out₀)
 
 abbrev μ-loop : tie.MeasureT-loop
-μ-loop out₀ waiting left right at₀ row₀ t7 out at row = 12 - row
+μ-loop out₀ waiting left right at₀ row₀ t7 out at row = 17 - row
 
 pub put-rows-spec : {M : Type 1} → statement M
 put-rows-spec =

@@ -1,5 +1,5 @@
 -- `sessions::acts::answer_to` meets its contract: each arm hands on the answer of its call, or the bench that it made.
--- The last sixteen needs are the arms, in the order of the commands. Assumes nothing.
+-- The last nineteen needs are the arms, in the order of the commands. Assumes nothing.
 use mathlib.Core.Path.{_∙_, ap}
 use Rattle.sessions.specs.Acts.{eventless, leaves, answerTo}
 use borrow.Author.Needs.{needs}
@@ -38,6 +38,13 @@ answer-to-spec =
     (λ c κs. search needs)
     (λ c. search needs)
     (λ c κs. search needs)
+    (λ c κs. search needs)
+    (λ c. search needs)
+    (λ c κs. search needs)
+    (λ c. search needs)
+    (λ c κs. search needs)
+    (λ c. search needs)
+    (λ c κs. search needs)
     (λ c. search needs)
     (λ c κs. search needs)
     (λ c. search needs)
@@ -60,11 +67,14 @@ answer-to-spec =
     (λ c. rw (c .before .enum-told3 .given .1) (c .bench-alone3 .ensures))
     (λ c. rw (c .before .enum-told4 .given .1) (c .bench-alone4 .ensures))
     (λ c. rw (c .before .before .before .c4 .given .1) (c .plain3 .ensures ∙ ap eventless (c .before .turn .ensures)))
-    (λ c. rw (c .before .before .before .c5 .given .1) (c .plain4 .ensures ∙ ap eventless (c .before .reading .ensures)))
+    (λ c. rw (c .before .before .before .c5 .given .1) (c .plain4 .ensures ∙ ap eventless (c .before .click .ensures)))
+    (λ c. rw (c .before .before .before .c6 .given .1) (c .plain5 .ensures ∙ ap eventless (c .before .reading .ensures)))
     (λ c. rw (c .before .before .enum-told5 .given .1) (c .bench-alone5 .ensures ∙ ap leaves (c .before .power-on .ensures)))
     (λ c. rw (c .before .enum-told6 .given .1) (c .bench-alone6 .ensures))
     (λ c. rw (c .before .enum-told7 .given .1) (c .bench-alone7 .ensures))
-    (λ c. rw (c .before .before .before .c6 .given .1) (c .bench-alone8 .ensures ∙ ap leaves (c .before .damage-pf .ensures)))
-    (λ c. rw (c .before .before .before .c7 .given .1) (c .bench-alone9 .ensures ∙ ap leaves (c .before .damage-reading .ensures)))
-    (λ c. rw (c .before .before .before .c8 .given .1) (c .bench-alone10 .ensures ∙ ap leaves (c .before .damage-set .ensures)))
-    (λ c. rw (c .before .before .before .c9 .given .1) (c .bench-alone11 .ensures ∙ ap leaves (c .before .damage-reference .ensures) ∙ search needs)))
+    (λ c. rw (c .before .enum-told8 .given .1) (c .bench-alone8 .ensures))
+    (λ c. rw (c .before .enum-told9 .given .1) (c .bench-alone9 .ensures))
+    (λ c. rw (c .before .before .before .c7 .given .1) (c .bench-alone10 .ensures ∙ ap leaves (c .before .damage-pf .ensures)))
+    (λ c. rw (c .before .before .before .c8 .given .1) (c .bench-alone11 .ensures ∙ ap leaves (c .before .damage-reading .ensures)))
+    (λ c. rw (c .before .before .before .c9 .given .1) (c .bench-alone12 .ensures ∙ ap leaves (c .before .damage-set .ensures)))
+    (λ c. rw (c .before .before .before .c10 .given .1) (c .bench-alone13 .ensures ∙ ap leaves (c .before .damage-reference .ensures) ∙ search needs)))

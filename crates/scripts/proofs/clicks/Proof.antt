@@ -1,0 +1,13 @@
+-- `scripts::clicks` meets its contract: the arms are those of `ifNumber`. Assumes nothing.
+use Rattle.scripts.specs.Commands.{clicksOf}
+use borrow.Author.Needs.{needs}
+use Rattle.scripts.proofs.clicks.Statement.{statement}
+use Rattle.scripts.proofs.clicks.Tie as tie
+
+pub clicks-spec : {M : Type 1} → statement M
+unfolding clicksOf
+clicks-spec =
+    tie.close (tie.spec
+    (λ c κs. search needs) (λ c. search needs) (λ c κs. search needs) (λ c. search needs)
+    (λ c. let d = c .before .before in rw (← d .before .before .knob-at .ensures, d .knob .given .1) (c .clicks-by .ensures))
+    (λ c. rw (← c .before .before .knob-at .ensures, c .enum-told .given .1)))
