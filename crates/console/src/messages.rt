@@ -18,11 +18,13 @@ power-on,_bench,_panel,_watch,_help_and_damage \
         SIGNAL_is_overspeed-begins,_overspeed-ends,_source-changed,_nav-captured,_lappr-captured,_\
 vappr-captured,_altsel-captured_or_altsel-on-track watch_takes_on_or_off \
         KIND_is_altitude,_airspeed,_vertical-speed,_roll,_pitch_or_heading \
-        VALUE_is_a_number_like_-12.5_of_at_most_15_digits,_or_0x_and_16_hexadecimal_digits,_or_nan,_inf,_-inf \
+        VALUE_is_a_number_like_-12.5,_of_at_most_15_significant_digits_and_15_after_the_point,_or_\
+0x_and_16_hexadecimal_digits,_or_nan,_inf_or_-inf \
         damage_takes_left,_right,_left-inbox,_right-inbox,_reading_or_pf N_is_a_number_from_0_to_255 \
         behind_the_box_stands_heading,_preselected,_held,_vertical-speed,_ias,_roll,_pitch_or_set \
         N_is_a_number_from_-2147483648_to_2147483647 \
-        a_set_is_0_and_three_numbers,_or_1_to_5,_0_to_2,_1_to_8,_0_or_1";
+        a_set_is_LATERAL_1_to_5,_ARMED_0_to_2,_VERTICAL_1_to_8,_VAPPR-ARMED_0_or_1,_or_0_and_three_\
+numbers_for_Off";
     put_nth(out, waiting, reasons, wrong as usize, 0)
 }
 

@@ -3,34 +3,37 @@
 use crate::run::Outcome;
 use crate::script;
 
-/// The answers of an output: a line with its newline, or a drawing from `panel` to `end`.
-pub fn answers(output: &[u8]) -> Vec<&[u8]> {
-    let mut answers = Vec::new();
+/// The blocks of an output: a line with its newline, or all lines from `panel` or `help` to `end`.
+///
+/// A drawing that the watch adds to an answer is a block of its own.
+pub fn blocks(output: &[u8]) -> Vec<&[u8]> {
+    let mut blocks = Vec::new();
     let mut start = 0;
     let mut end = 0;
-    let mut drawing = false;
+    let mut open = false;
     for line in output.split_inclusive(|&byte| byte == b'\n') {
         end += line.len();
-        drawing = if drawing {
+        open = if open {
             line != b"end\n"
         } else {
-            line == b"panel\n"
+            matches!(line, b"panel\n" | b"help\n")
         };
-        if !drawing {
-            answers.push(&output[start..end]);
+        if !open {
+            blocks.push(&output[start..end]);
             start = end;
         }
     }
     if start < end {
-        // A drawing without its end.
-        answers.push(&output[start..]);
+        // A block without its end.
+        blocks.push(&output[start..]);
     }
-    answers
+    blocks
 }
 
 #[derive(PartialEq)]
 enum Form {
     Drawing,
+    Help,
     Error,
     Plain,
     /// No answer that a program may give.
@@ -41,6 +44,8 @@ enum Form {
 fn form(answer: &[u8], number: usize) -> Form {
     let right = if answer.starts_with(b"panel\n") {
         (answer.ends_with(b"\nend\n"), Form::Drawing)
+    } else if answer.starts_with(b"help\n") {
+        (answer.ends_with(b"\nend\n"), Form::Help)
     } else if answer.starts_with(b"error") {
         (is_error(answer, number), Form::Error)
     } else {
@@ -70,34 +75,102 @@ pub fn same(one: &[u8], other: &[u8], number: usize) -> bool {
     }
 }
 
+/// The first words of the answers that a drawing follows while the watch is on.
+const WATCHED: [&[u8]; 7] = [
+    b"event",
+    b"turn",
+    b"reading",
+    b"send",
+    b"refresh",
+    b"power-on",
+    b"damage",
+];
+
+fn is_watched(answer: &[u8]) -> bool {
+    let first = answer.split(|&byte| byte == b' ').next();
+    first.is_some_and(|word| WATCHED.contains(&word))
+}
+
 /// Where two programs first differ, with the answer of each there.
 #[derive(Debug, PartialEq)]
 pub struct Difference {
     /// The script line, from 0; none if the programs differ only after the last answer.
     pub line: Option<usize>,
+    /// Whether the answer to that line is the same and the drawing that has to follow it is not.
+    pub in_drawing: bool,
     pub answers: [Option<Vec<u8>>; 2],
 }
 
 pub fn first_difference(script: &[u8], outcomes: [&Outcome; 2]) -> Option<Difference> {
-    let [one, other] = outcomes.map(|outcome| answers(&outcome.output));
-    let differs = |line, index: usize| Difference {
-        line,
-        answers: [&one, &other].map(|all| all.get(index).map(|answer| answer.to_vec())),
+    let mut blocks = Pairs {
+        blocks: outcomes.map(|outcome| blocks(&outcome.output)),
+        next: 0,
+        in_drawing: false,
     };
-    let mut index = 0;
+    let mut watch = false;
     for (line, text) in script::lines(script).iter().enumerate() {
         if !script::is_answered(text) {
             continue;
         }
-        match (one.get(index), other.get(index)) {
-            (Some(one), Some(other)) if same(one, other, line + 1) => index += 1,
-            _ => return Some(differs(Some(line), index)),
+        watch = script::watch(text).unwrap_or(watch);
+        if !blocks.answer_to(line + 1, watch) {
+            return Some(blocks.difference(Some(line)));
         }
     }
-    let surplus = one.len() > index || other.len() > index;
     let trouble = outcomes.iter().any(|outcome| outcome.trouble.is_some());
-    (surplus || trouble).then(|| differs(None, index))
+    (!blocks.are_used_up() || trouble).then(|| blocks.difference(None))
 }
+
+/// The blocks of both programs, and the next pair that is to be compared.
+struct Pairs<'a> {
+    blocks: [Vec<&'a [u8]>; 2],
+    next: usize,
+    /// Whether that pair has to be a drawing of the watch.
+    in_drawing: bool,
+}
+
+impl<'a> Pairs<'a> {
+    /// Passes over the answers to the script line of that number, from 1, with the drawings of the
+    /// watch. Stays at the first pair that differs, and tells whether there was none.
+    fn answer_to(&mut self, number: usize, watch: bool) -> bool {
+        let Some([one, other]) = self.pair() else {
+            return false;
+        };
+        if !same(one, other, number) {
+            return false;
+        }
+        self.next += 1;
+        !(watch && is_watched(one)) || self.drawing(number)
+    }
+
+    /// Passes over a drawing of each program.
+    fn drawing(&mut self, number: usize) -> bool {
+        let drawn = |pair: [&[u8]; 2]| pair.map(|block| form(block, number)) == DRAWINGS;
+        self.in_drawing = !self.pair().is_some_and(drawn);
+        self.next += usize::from(!self.in_drawing);
+        !self.in_drawing
+    }
+
+    fn pair(&self) -> Option<[&'a [u8]; 2]> {
+        let [one, other] = &self.blocks;
+        Some([one.get(self.next)?, other.get(self.next)?])
+    }
+
+    fn are_used_up(&self) -> bool {
+        self.blocks.iter().all(|all| all.len() <= self.next)
+    }
+
+    fn difference(&self, line: Option<usize>) -> Difference {
+        let all = self.blocks.each_ref();
+        Difference {
+            line,
+            in_drawing: self.in_drawing,
+            answers: all.map(|all| all.get(self.next).map(|block| block.to_vec())),
+        }
+    }
+}
+
+const DRAWINGS: [Form; 2] = [Form::Drawing, Form::Drawing];
 
 #[cfg(test)]
 mod tests {
@@ -120,18 +193,31 @@ mod tests {
     }
 
     #[test]
-    fn a_drawing_is_one_answer() {
-        let output = b"event 0 1\npanel\npanel\n end\nevent 0 2\nend\nend\nsend 0\n";
+    fn a_drawing_is_one_block() {
+        let output = b"event 0 1\npanel\npanel\n end\nhelp\nend\nend\nsend 0\n";
         let expected: [&[u8]; 4] = [
             b"event 0 1\n",
-            b"panel\npanel\n end\nevent 0 2\nend\n",
+            b"panel\npanel\n end\nhelp\nend\n",
             b"end\n",
             b"send 0\n",
         ];
-        assert_eq!(answers(output), expected);
-        assert_eq!(answers(b"a\npanel\nb"), [&b"a\n"[..], b"panel\nb"]);
-        assert_eq!(answers(b"a\nb"), [b"a\n".as_slice(), b"b"]);
-        assert!(answers(b"").is_empty());
+        assert_eq!(blocks(output), expected);
+        assert_eq!(blocks(b"a\npanel\nb"), [&b"a\n"[..], b"panel\nb"]);
+        assert_eq!(blocks(b"a\nb"), [b"a\n".as_slice(), b"b"]);
+        assert!(blocks(b"").is_empty());
+    }
+
+    #[test]
+    fn help_is_one_block_and_so_is_each_of_two_drawings() {
+        let output = b"help\nevent WORD\npanel\nend\nsend 0\npanel\nend\npanel\nend\n";
+        let expected: [&[u8]; 4] = [
+            b"help\nevent WORD\npanel\nend\n",
+            b"send 0\n",
+            b"panel\nend\n",
+            b"panel\nend\n",
+        ];
+        assert_eq!(blocks(output), expected);
+        assert_eq!(blocks(b"a\nhelp\nb"), [&b"a\n"[..], b"help\nb"]);
     }
 
     #[test]
@@ -182,6 +268,70 @@ mod tests {
         }
     }
 
+    #[test]
+    fn help_is_the_same_if_both_have_an_end() {
+        assert!(same(b"help\nend\n", b"help\nx\nend\n", 1));
+        for other in ["help\nx\n", "help\nend", "help\n", "panel\nend\n", "end\n"] {
+            assert!(!same(b"help\nend\n", other.as_bytes(), 1), "{other:?}");
+            assert!(!same(other.as_bytes(), b"help\nend\n", 1), "{other:?}");
+        }
+    }
+
+    const WATCHED_SCRIPT: &str =
+        "watch on\nsend 0\n# x\npanel\nx\npress hdg\nhelp\nbench\nwatch off\nsend 1\n";
+
+    #[test]
+    fn a_drawing_of_the_watch_belongs_to_the_line_ahead_of_it() {
+        let good = "watch 0\nsend 0\npanel\nend\npanel\nend\nerror 5: a\nevent 0 14\n\
+            panel\nend\nhelp\nend\nbench 0\nwatch 0\nsend 0\n";
+        let drawn = good.replace("panel\n", "panel\nsend 1\n");
+        assert_eq!(difference(WATCHED_SCRIPT, good, &drawn), None);
+        let changes = [
+            ("send 0\npanel", "send 1\npanel", 1),
+            ("send 0\npanel\nend\n", "send 0\n", 3),
+            ("send 0\npanel\nend\npanel\n", "send 0\nbench 0\npanel\n", 1),
+            ("14\npanel\nend\n", "14\n", 5),
+            ("error 5: a\n", "error 5: a\npanel\nend\n", 5),
+            ("help\nend\n", "help\nend\npanel\nend\n", 7),
+            ("bench 0\n", "bench 0\npanel\nend\n", 8),
+        ];
+        for (from, to, expected) in changes {
+            let bad = good.replacen(from, to, 1);
+            assert_ne!(bad, good);
+            assert_eq!(line(WATCHED_SCRIPT, &drawn, &bad), Some(expected), "{to:?}");
+            assert_eq!(line(WATCHED_SCRIPT, &bad, &drawn), Some(expected), "{to:?}");
+        }
+    }
+
+    #[test]
+    fn drawings_where_none_belong_differ_even_if_both_programs_have_them() {
+        let off = "send 0\nwatch on\nwatch off\nsend 1\n";
+        let answers = "send 0\nwatch 0\nwatch 0\nsend 0\n";
+        assert_eq!(difference(off, answers, answers), None);
+        let surplus = format!("{answers}panel\nend\n");
+        assert_eq!(line(off, &surplus, &surplus), None);
+        assert_eq!(line(off, answers, &surplus), None);
+    }
+
+    #[test]
+    fn both_programs_have_to_draw_while_the_watch_is_on() {
+        let watched = "watch on\npower-on\nsend 9\n";
+        let silent = "watch 0\npower-on 0\nsend 2\n";
+        assert_eq!(line(watched, silent, silent), Some(1));
+        let cut = "watch 0\npower-on 0\npanel\nend\nsend 2\n";
+        assert_eq!(line(watched, cut, cut), Some(2));
+        let whole = format!("{cut}panel\nend\n");
+        assert_eq!(difference(watched, &whole, &whole), None);
+        assert_eq!(
+            difference(watched, &whole, cut),
+            Some(Difference {
+                line: Some(2),
+                in_drawing: true,
+                answers: [Some(b"panel\nend\n".to_vec()), None],
+            })
+        );
+    }
+
     const SCRIPT: &str = "event 1\n\n# x\npanel\nx\nsend 0 # y\n";
 
     #[test]
@@ -211,6 +361,7 @@ mod tests {
             found,
             Some(Difference {
                 line: Some(1),
+                in_drawing: false,
                 answers
             })
         );
@@ -224,6 +375,7 @@ mod tests {
             surplus,
             Some(Difference {
                 line: None,
+                in_drawing: false,
                 answers
             })
         );

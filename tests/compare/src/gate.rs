@@ -78,6 +78,16 @@ impl Gate {
         self.check(script).map(|_| ())
     }
 
+    /// Runs the console alone, for what only its own answers can be held to.
+    pub fn ask_console(&mut self, script: &Script) -> Result<Vec<u8>, Stop> {
+        let outcome = start(&self.programs[0], script.text(), Attempt::First)?;
+        self.commands += script.commands();
+        match outcome.trouble {
+            None => Ok(outcome.output),
+            Some(trouble) => Err(self.reject(&format!("{} {trouble}", NAMES[0]))),
+        }
+    }
+
     /// Stops a part whose answers are the same but not what they have to be.
     pub fn reject(&self, problem: &str) -> Stop {
         Stop::Failed(format!(
@@ -202,6 +212,30 @@ mod tests {
             text.contains("second: (no answer)\ndocument 01: send 0\n"),
             "{text}"
         );
+    }
+
+    #[test]
+    fn the_console_alone_answers_and_its_bad_end_is_told() {
+        let mut good = gate(["cat", "./nothing"]);
+        let output = good.ask_console(&script());
+        assert!(output.is_ok_and(|output| output == script().text()));
+        assert_eq!(good.commands, 2);
+        let text = report(gate(["false", "cat"]).ask_console(&script()).map(|_| ()));
+        assert!(text.contains("\nconsole ended with "), "{text}");
+    }
+
+    #[test]
+    fn a_watched_difference_is_cut_to_a_script_that_shows_it() {
+        let mut script = Script::default();
+        for line in ["power-on", "watch on", "bench", "power-on", "send 0"] {
+            script.line(line);
+        }
+        // `cat` draws nothing, so the send differs, but not without the watch.
+        let text = report(gate(["cat", "cat"]).check(&script).map(|_| ()));
+        let place = "script line 5 (the drawing after its answer): send 0\n";
+        assert!(text.contains(place), "{text}");
+        let end = "(lines: 4):\nwatch on\nbench\npower-on\nsend 0\n";
+        assert!(text.ends_with(end), "{text}");
     }
 
     #[test]

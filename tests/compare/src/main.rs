@@ -1,8 +1,9 @@
-//! Runs two programs on the same scripts and compares their answers.
+//! Runs two programs on the same scripts and compares their answers. The last part runs only the
+//! first program, and holds its drawings to its displays.
 //!
 //! Without options it runs the parts of the gate; with `--random` only random lists, as many as
-//! are asked for. It exits with 0 if all answers are the same, with 1 at the first difference, and
-//! with 2 if it is called wrongly or a program cannot be started.
+//! are asked for. It exits with 0 if all answers are the same and all drawings right, with 1 at the
+//! first that is not, and with 2 if it is called wrongly or a program cannot be started.
 
 mod compare;
 mod gate;
@@ -63,7 +64,7 @@ fn run_parts(gate: &mut Gate) -> Result<(), Stop> {
     for part in parts::ALL {
         gate.start_part(part.name);
         (part.run)(gate)?;
-        println!("{}: {} commands, same answers", part.name, gate.commands);
+        println!("{}: {} commands, {}", part.name, gate.commands, part.found);
         commands += gate.commands;
     }
     println!("all parts: {commands} commands, same answers");

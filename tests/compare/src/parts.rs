@@ -3,6 +3,7 @@
 mod damage;
 mod knobs;
 mod language;
+mod panels;
 pub mod random;
 mod readings;
 mod sets;
@@ -13,36 +14,53 @@ use crate::gate::{Gate, Stop};
 
 pub struct Part {
     pub name: &'static str,
+    /// What is printed of it if nothing is wrong.
+    pub found: &'static str,
     pub run: fn(&mut Gate) -> Result<(), Stop>,
 }
 
-pub const ALL: [Part; 7] = [
+const SAME: &str = "same answers";
+
+/// The drawings come last, so that all that two programs can differ in is seen before.
+pub const ALL: [Part; 8] = [
     Part {
         name: "bench sheet",
+        found: SAME,
         run: sheet::run,
     },
     Part {
         name: "mode sets and events",
+        found: SAME,
         run: sets::run,
     },
     Part {
         name: "knobs",
+        found: SAME,
         run: knobs::run,
     },
     Part {
         name: "readings",
+        found: SAME,
         run: readings::run,
     },
     Part {
         name: "damaged benches",
+        found: SAME,
         run: damage::run,
     },
     Part {
         name: "script language",
+        found: SAME,
         run: language::run,
     },
     Part {
         name: "random lists",
+        found: SAME,
         run: random::run,
+    },
+    Part {
+        name: "panels",
+        found: "drawings as their displays",
+        run: panels::run,
     },
 ];

@@ -57,7 +57,15 @@ impl Report<'_> {
     fn place(&self) -> String {
         let lines = script::lines(self.script);
         match self.difference.line {
-            Some(index) => format!("script line {}: {}\n", index + 1, readable(lines[index])),
+            Some(index) => {
+                let what = if self.difference.in_drawing {
+                    " (the drawing after its answer)"
+                } else {
+                    ""
+                };
+                let line = readable(lines[index]);
+                format!("script line {}{what}: {line}\n", index + 1)
+            }
             None => format!("after the last of {} script lines\n", lines.len()),
         }
     }
@@ -123,13 +131,18 @@ mod tests {
     fn report(script: &str, index: Option<usize>, shortest: &str) -> String {
         let difference = Difference {
             line: index,
+            in_drawing: false,
             answers: [Some(b"event 0 1\n".to_vec()), None],
         };
+        report_of(&difference, script, shortest)
+    }
+
+    fn report_of(difference: &Difference, script: &str, shortest: &str) -> String {
         Report {
             part: "knobs",
             seed: 77,
             script: script.as_bytes(),
-            difference: &difference,
+            difference,
             names: ["console", "second"],
             troubles: [None, Some("ended with exit status: 3")],
             shortest: Shortest {
@@ -146,6 +159,18 @@ mod tests {
             console: event 0 1\nsecond: (no answer)\nsecond ended with exit status: 3\n\
             script that shows it (lines: 1):\nevent 2\n";
         assert_eq!(report("event 1\nevent 2\n", Some(1), "event 2\n"), expected);
+    }
+
+    #[test]
+    fn a_difference_in_a_drawing_is_told_from_one_in_an_answer() {
+        let difference = Difference {
+            line: Some(1),
+            in_drawing: true,
+            answers: [None, None],
+        };
+        let text = report_of(&difference, "watch on\nsend 0\n", "");
+        let place = "script line 2 (the drawing after its answer): send 0\nconsole: (no answer)\n";
+        assert!(text.contains(place), "{text}");
     }
 
     #[test]

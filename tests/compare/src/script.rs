@@ -76,15 +76,35 @@ pub fn is_answered(line: &[u8]) -> bool {
 }
 
 pub fn is_power_on(line: &[u8]) -> bool {
-    let line = bare(line);
-    line.len() <= LONGEST && words(line) == [b"power-on"]
+    command(line) == [b"power-on"]
 }
 
-/// The words ahead of a comment. Only a space parts them: a tab is a byte of a word.
+/// What a line switches the watch to, if it does.
+pub fn watch(line: &[u8]) -> Option<bool> {
+    match command(line)[..] {
+        [b"watch", b"on"] => Some(true),
+        [b"watch", b"off"] => Some(false),
+        _ => None,
+    }
+}
+
+/// The words of a line, or none if it is too long to be a command.
+fn command(line: &[u8]) -> Vec<&[u8]> {
+    let line = bare(line);
+    if line.len() > LONGEST {
+        return Vec::new();
+    }
+    words(line)
+}
+
+/// The bytes that part words.
+pub const SEPARATORS: [u8; 3] = *b" \t\r";
+
+/// The words ahead of a comment.
 fn words(line: &[u8]) -> Vec<&[u8]> {
     let end = line.iter().position(|&byte| byte == b'#');
     let command = &line[..end.unwrap_or(line.len())];
-    let parts = command.split(|&byte| byte == b' ');
+    let parts = command.split(|byte| SEPARATORS.contains(byte));
     parts.filter(|part| !part.is_empty()).collect()
 }
 
@@ -94,14 +114,35 @@ mod tests {
 
     #[test]
     fn empty_lines_and_comments_alone_are_not_answered() {
-        for line in ["", "\n", "  \n", "#", "# event 1\n", "   # x", "#\r\n"] {
+        for line in [
+            "",
+            "\n",
+            "  \n",
+            "#",
+            "# event 1\n",
+            "   # x",
+            "#\r\n",
+            "\t",
+            "\r\n",
+            " \r\t \n",
+            "\t\r# event 1\n",
+        ] {
             assert!(!is_answered(line.as_bytes()), "{line:?}");
         }
     }
 
     #[test]
     fn every_other_line_is_answered() {
-        for line in ["event 1\n", "x", "\t", "\r\n", "\0", "event 1#x", " a # b"] {
+        for line in [
+            "event 1\n",
+            "x",
+            "\tx\r\n",
+            "\u{b}",
+            "\u{c}\n",
+            "\0",
+            "event 1#x",
+            " a # b",
+        ] {
             assert!(is_answered(line.as_bytes()), "{line:?}");
         }
         assert!(is_answered(b"\xff\n"));
@@ -109,7 +150,7 @@ mod tests {
 
     #[test]
     fn a_line_above_the_limit_is_answered_whatever_it_holds() {
-        for filler in [b' ', b'#'] {
+        for filler in *b" #\t\r" {
             let mut line = vec![filler; 255];
             line.push(b'\n');
             assert!(!is_answered(&line));
@@ -145,14 +186,53 @@ mod tests {
 
     #[test]
     fn power_on_is_told_from_what_looks_like_it() {
-        for line in ["power-on\n", "power-on", "  power-on  # again\n"] {
+        for line in [
+            "power-on\n",
+            "power-on",
+            "  power-on  # again\n",
+            "power-on\r\n",
+            "\tpower-on\t\n",
+        ] {
             assert!(is_power_on(line.as_bytes()), "{line:?}");
         }
-        for line in ["power-on 0\n", "Power-on\n", "# power-on\n", "power-on\r\n"] {
+        for line in ["power-on 0\n", "Power-on\n", "# power-on\n", "power\t-on\n"] {
             assert!(!is_power_on(line.as_bytes()), "{line:?}");
         }
         let mut long = b"power-on #".to_vec();
         long.resize(256, b'x');
         assert!(!is_power_on(&long));
+    }
+
+    #[test]
+    fn what_switches_the_watch_is_told_from_what_does_not() {
+        for line in [
+            "watch on\n",
+            "watch on",
+            "\twatch\r \ton\r\n",
+            "watch on#off",
+        ] {
+            assert_eq!(watch(line.as_bytes()), Some(true), "{line:?}");
+        }
+        for line in ["watch off\n", "  watch off # on"] {
+            assert_eq!(watch(line.as_bytes()), Some(false), "{line:?}");
+        }
+        for line in [
+            "watch",
+            "watch On",
+            "watch 1",
+            "watch on off",
+            "Watch on",
+            "watchon",
+            "on",
+            "# watch on",
+            "watch # on",
+        ] {
+            assert_eq!(watch(line.as_bytes()), None, "{line:?}");
+        }
+        let mut line = b"watch on".to_vec();
+        line.resize(255, b'\r');
+        assert_eq!(watch(&line), Some(true));
+        line.push(b'\r');
+        assert_eq!(watch(&line), None);
     }
 }

@@ -23,10 +23,11 @@ pub fn shortest<'a>(
         return Shortest { text, shown_again };
     };
     let prefix = &text[..ends[count]];
-    let text = match last_power_on(prefix) {
-        Some(start) if differs(&prefix[start..]) => &prefix[start..],
-        _ => prefix,
-    };
+    let text = late_starts(prefix)
+        .into_iter()
+        .map(|start| &prefix[start..])
+        .find(|text| differs(text))
+        .unwrap_or(prefix);
     let shown_again = true;
     Shortest { text, shown_again }
 }
@@ -70,13 +71,22 @@ fn shortest_count(
     Some(high)
 }
 
-/// Where the last `power-on` ahead of the last line starts, if it is not the first line.
-fn last_power_on(prefix: &[u8]) -> Option<usize> {
+/// Where a shorter script might start: at the last `power-on` ahead of the last line, or, because
+/// that leaves the watch as it is, where the watch was last switched before it.
+fn late_starts(prefix: &[u8]) -> Vec<usize> {
     let lines = script::lines(prefix);
-    let (_, earlier) = lines.split_last()?;
     let ends = line_ends(prefix);
-    let index = earlier.iter().rposition(|line| script::is_power_on(line))?;
-    (index > 0).then_some(ends[index])
+    let earlier = &lines[..lines.len().saturating_sub(1)];
+    let Some(power_on) = earlier.iter().rposition(|line| script::is_power_on(line)) else {
+        return Vec::new();
+    };
+    let switches = |line: &&[u8]| script::watch(line).is_some();
+    let watch = earlier[..power_on].iter().rposition(switches);
+    let starts = [Some(power_on), watch].into_iter().flatten();
+    starts
+        .filter(|&index| index > 0)
+        .map(|index| ends[index])
+        .collect()
 }
 
 #[cfg(test)]
@@ -119,6 +129,20 @@ mod tests {
         assert_eq!(found.0, "power-on # x\nbad\n");
         let found = cut(text, Some(4), |text| has(text, "b\n") && has(text, "bad"));
         assert_eq!(found.0, "a\npower-on\nb\npower-on # x\nbad\n");
+    }
+
+    #[test]
+    fn it_starts_where_the_watch_was_switched_if_that_matters() {
+        let text = "a\npower-on\nwatch off\nb\nwatch on\nc\npower-on\nbad\nd\n";
+        let watched = |text: &[u8]| has(text, "watch on\n") && has(text, "bad");
+        let found = cut(text, Some(7), watched);
+        assert_eq!(found.0, "watch on\nc\npower-on\nbad\n");
+        let found = cut(text, Some(7), |text| has(text, "bad"));
+        assert_eq!(found.0, "power-on\nbad\n");
+        let found = cut(text, Some(7), |text| has(text, "b\n") && has(text, "bad"));
+        assert_eq!(found.0, text.strip_suffix("d\n").unwrap());
+        let found = cut("watch on\npower-on\nbad\n", Some(2), watched);
+        assert_eq!(found.0, "watch on\npower-on\nbad\n");
     }
 
     #[test]

@@ -5,21 +5,36 @@ use std::io::{self, BufRead, Read, Write};
 use crate::bench::{Bench, Channel, Refusal};
 use crate::calls::{self, Display, NO_EVENT};
 use crate::float;
-use crate::script::{self, Command, Damage, Place, Problem};
+use crate::names::Place;
+use crate::script::{self, Command, Damage, Problem};
 
 /// The most bytes of a line, its end not counted.
 const LINE_LIMIT: usize = 255;
 
+struct State {
+    bench: Bench,
+    /// Whether a drawing follows what can change the bench.
+    watch: bool,
+}
+
 /// Carries out the whole script from power-on.
 pub fn run(input: &mut impl BufRead, output: &mut impl Write) -> io::Result<()> {
-    let mut bench = Bench::power_on();
+    let mut state = State {
+        bench: Bench::power_on(),
+        watch: false,
+    };
     let mut line = Vec::with_capacity(LINE_LIMIT + 1);
     let mut number = 0_u64;
     while let Some(fits) = next_line(input, &mut line)? {
         number += 1;
         match parse(&line, fits) {
             Ok(None) => {}
-            Ok(Some(command)) => carry_out(&mut bench, command, output)?,
+            Ok(Some(command)) => {
+                carry_out(&mut state, command, output)?;
+                if state.watch && command.is_watched() {
+                    write_panel(output)?;
+                }
+            }
             Err(problem) => writeln!(output, "error {number}: {problem}")?,
         }
     }
@@ -49,17 +64,23 @@ fn parse(line: &[u8], fits: bool) -> Result<Option<Command>, Problem> {
     if fits {
         script::parse(line)
     } else {
-        Err("line of more than 255 bytes")
+        Err("a line has at most 255 bytes")
     }
 }
 
-fn carry_out(bench: &mut Bench, command: Command, output: &mut impl Write) -> io::Result<()> {
+fn carry_out(state: &mut State, command: Command, output: &mut impl Write) -> io::Result<()> {
+    let bench = &mut state.bench;
     match command {
         Command::Event(word) => {
             let (refusal, answer) = parted(calls::event(bench, word), NO_EVENT);
             writeln!(output, "event {refusal} {answer}")
         }
         Command::Turn(knob, count) => {
+            let refusal = number_of(calls::turn(bench, knob, count));
+            writeln!(output, "turn {refusal}")
+        }
+        Command::Knob(knob, clicks) => {
+            let count = bench.counts[knob as usize].wrapping_add_signed(clicks);
             let refusal = number_of(calls::turn(bench, knob, count));
             writeln!(output, "turn {refusal}")
         }
@@ -86,7 +107,12 @@ fn carry_out(bench: &mut Bench, command: Command, output: &mut impl Write) -> io
             writeln!(output, "power-on 0")
         }
         Command::Bench => write_bench(bench, output),
-        Command::Panel => writeln!(output, "panel\nend"),
+        Command::Panel => write_panel(output),
+        Command::Watch(on) => {
+            state.watch = on;
+            writeln!(output, "watch 0")
+        }
+        Command::Help => writeln!(output, "help\nend"),
         Command::Damage(damage) => {
             carry_out_damage(bench, damage);
             writeln!(output, "damage 0")
@@ -133,6 +159,11 @@ fn write_display(refusal: u32, shown: &Display, output: &mut impl Write) -> io::
     )?;
     write_numbers(&shown.references, output)?;
     writeln!(output, " {}", shown.lamps)
+}
+
+/// A drawing is free between its first and its last line; here it is empty.
+fn write_panel(output: &mut impl Write) -> io::Result<()> {
+    writeln!(output, "panel\nend")
 }
 
 fn write_bench(bench: &Bench, output: &mut impl Write) -> io::Result<()> {

@@ -1,13 +1,14 @@
 //! A second implementation of the flight guidance bench.
 //!
-//! A script comes in on standard input, and each of its commands is answered by
-//! a line on standard output.
+//! A script comes in on standard input, and each of its commands is answered on
+//! standard output: by a line, or by a block of lines that `end` closes.
 
 mod bench;
 mod calls;
 mod console;
 mod events;
 mod float;
+mod names;
 mod script;
 mod sets;
 #[cfg(test)]

@@ -6,12 +6,15 @@
 
 use crate::bench::{Kind, Reference};
 use crate::float;
+use crate::names::{self, Place};
 use crate::sets::ModeSet;
 
 #[derive(Clone, Copy, PartialEq, Eq, Debug)]
 pub enum Command {
     Event(u32),
     Turn(u32, u8),
+    /// A knob 0 to 3 and by how much its count goes on.
+    Knob(u32, i8),
     Reading(Kind, u64),
     Send(u32),
     Refresh(u32),
@@ -20,7 +23,23 @@ pub enum Command {
     PowerOn,
     Bench,
     Panel,
+    Watch(bool),
+    Help,
     Damage(Damage),
+}
+
+impl Command {
+    /// Whether it is a command that can change the bench, even if this one
+    /// does not.
+    pub fn is_watched(self) -> bool {
+        match self {
+            Command::Event(_) | Command::Turn(..) | Command::Knob(..) => true,
+            Command::Reading(..) | Command::Send(_) | Command::Refresh(_) => true,
+            Command::PowerOn | Command::Damage(_) => true,
+            Command::Display(_) | Command::Pick(_) | Command::Bench => false,
+            Command::Panel | Command::Watch(_) | Command::Help => false,
+        }
+    }
 }
 
 #[derive(Clone, Copy, PartialEq, Eq, Debug)]
@@ -31,15 +50,39 @@ pub enum Damage {
     Reading(Kind, u64),
 }
 
-/// Where a channel is kept: a side itself or a side's inbox.
-#[derive(Clone, Copy, PartialEq, Eq, Debug)]
-pub enum Place {
-    Side(usize),
-    Inbox(usize),
-}
-
-/// What is wrong with a line.
+/// What would be right where a line went wrong.
 pub type Problem = &'static str;
+
+const NAME: Problem = "a command is event, press, signal, turn, knob, reading, send, refresh, \
+    display, pick, power-on, bench, panel, damage, watch or help";
+const ALONE: Problem = "this command is one word alone";
+const EVENT: Problem = "event takes one number from 0 to 4294967295";
+const PRESS: Problem = "press takes one switch: ap-disconnect, ap, go-around, transfer, fd-left, \
+    fd-right, hdg, nav, appr, vs, flc or alt";
+const SIGNAL: Problem = "signal takes one signal: overspeed-begins, overspeed-ends, \
+    source-changed, nav-captured, lappr-captured, vappr-captured, altsel-captured or \
+    altsel-on-track";
+const TURN: Problem = "turn takes a knob and a count";
+const KNOB: Problem = "knob takes a knob and clicks";
+const ANY_KNOB: Problem = "a knob is wheel, altitude, speed, heading or a number from 0 to \
+    4294967295";
+const ONE_OF_FOUR: Problem = "a knob is wheel, altitude, speed, heading or a number from 0 to 3";
+const COUNT: Problem = "a count is a number from 0 to 255";
+const CLICKS: Problem = "clicks are a number from -128 to 127";
+const SIDE: Problem = "here goes one side: left, right or a number from 0 to 4294967295";
+const READING: Problem = "a reading has a kind and a value";
+const KIND: Problem = "a kind is altitude, airspeed, vertical-speed, roll, pitch or heading";
+const VALUE: Problem = "a value is a decimal number with at most 15 significant digits and at \
+    most 15 after the point, or 0x and 16 hexadecimal digits, or nan, inf or -inf";
+const WATCH: Problem = "watch takes on or off";
+const DAMAGE: Problem = "damage takes pf, reading, left, right, left-inbox or right-inbox first";
+const PF: Problem = "damage pf takes one number from 0 to 255";
+const SET: Problem = "a set is lateral 1 to 5, armed 0 to 2, vertical 1 to 8 and vappr-armed 0 or \
+    1, or 0 and three numbers for Off";
+const TARGET: Problem = "here goes set and four numbers, or a reference and a number";
+const REFERENCE: Problem = "a reference is heading, preselected, held, vertical-speed, ias, roll \
+    or pitch";
+const AMOUNT: Problem = "a reference takes a number from -2147483648 to 2147483647";
 
 /// More words than any command has, so that surplus ones are noticed.
 const MOST_WORDS: usize = 8;
@@ -59,7 +102,7 @@ pub fn parse(line: &[u8]) -> Result<Option<Command>, Problem> {
 fn split<'s, 'l>(line: &'l [u8], storage: &'s mut [&'l [u8]; MOST_WORDS]) -> &'s [&'l [u8]] {
     let text = line.split(|&byte| byte == b'#').next().unwrap_or(line);
     let words = text
-        .split(|&byte| byte == b' ')
+        .split(|byte| b" \t\r".contains(byte))
         .filter(|word| !word.is_empty());
     let mut count = 0;
     for (slot, word) in storage.iter_mut().zip(words) {
@@ -71,71 +114,110 @@ fn split<'s, 'l>(line: &'l [u8], storage: &'s mut [&'l [u8]; MOST_WORDS]) -> &'s
 
 fn command(name: &[u8], arguments: &[&[u8]]) -> Result<Command, Problem> {
     match name {
-        b"event" => Ok(Command::Event(one(arguments).and_then(number)?)),
+        b"event" => one(arguments, number, EVENT).map(Command::Event),
+        b"press" => one(arguments, names::switch, PRESS).map(alone_in_word),
+        b"signal" => one(arguments, names::signal, SIGNAL).map(alone_in_word),
         b"turn" => turn(arguments),
+        b"knob" => knob(arguments),
         b"reading" => reading(arguments).map(|(kind, bits)| Command::Reading(kind, bits)),
-        b"send" => Ok(Command::Send(one(arguments).and_then(number)?)),
-        b"refresh" => Ok(Command::Refresh(one(arguments).and_then(number)?)),
-        b"display" => Ok(Command::Display(one(arguments).and_then(number)?)),
-        b"pick" => Ok(Command::Pick(one(arguments).and_then(number)?)),
+        b"send" => one(arguments, side, SIDE).map(Command::Send),
+        b"refresh" => one(arguments, side, SIDE).map(Command::Refresh),
+        b"display" => one(arguments, side, SIDE).map(Command::Display),
+        b"pick" => one(arguments, side, SIDE).map(Command::Pick),
         b"power-on" => alone(arguments, Command::PowerOn),
         b"bench" => alone(arguments, Command::Bench),
         b"panel" => alone(arguments, Command::Panel),
+        b"watch" => one(arguments, names::on_or_off, WATCH).map(Command::Watch),
+        b"help" => alone(arguments, Command::Help),
         b"damage" => damage(arguments).map(Command::Damage),
-        _ => Err("no such command"),
+        _ => Err(NAME),
     }
 }
 
-const WORD_COUNT: Problem = "too few or too many words";
+/// The word with the bit of one event.
+fn alone_in_word(event: u32) -> Command {
+    Command::Event(1 << event)
+}
 
 fn alone(arguments: &[&[u8]], command: Command) -> Result<Command, Problem> {
     match arguments {
         [] => Ok(command),
-        _ => Err(WORD_COUNT),
+        _ => Err(ALONE),
     }
 }
 
-fn one<'l>(arguments: &[&'l [u8]]) -> Result<&'l [u8], Problem> {
+/// The only argument, as it is read at its place.
+fn one<T>(
+    arguments: &[&[u8]],
+    read: fn(&[u8]) -> Option<T>,
+    accepted: Problem,
+) -> Result<T, Problem> {
     match arguments {
-        [word] => Ok(word),
-        _ => Err(WORD_COUNT),
+        [word] => read(word).ok_or(accepted),
+        _ => Err(accepted),
     }
 }
 
 fn turn(arguments: &[&[u8]]) -> Result<Command, Problem> {
-    match arguments {
-        [knob, count] => Ok(Command::Turn(number(knob)?, byte(count)?)),
-        _ => Err(WORD_COUNT),
-    }
+    let [knob, count] = arguments else {
+        return Err(TURN);
+    };
+    let knob = any_knob(knob).ok_or(ANY_KNOB)?;
+    Ok(Command::Turn(knob, byte(count).ok_or(COUNT)?))
+}
+
+fn knob(arguments: &[&[u8]]) -> Result<Command, Problem> {
+    let [knob, clicks] = arguments else {
+        return Err(KNOB);
+    };
+    let knob = any_knob(knob).filter(|&knob| knob <= 3);
+    let knob = knob.ok_or(ONE_OF_FOUR)?;
+    Ok(Command::Knob(knob, signed_byte(clicks).ok_or(CLICKS)?))
+}
+
+fn any_knob(word: &[u8]) -> Option<u32> {
+    names::knob(word).or_else(|| number(word))
+}
+
+fn side(word: &[u8]) -> Option<u32> {
+    names::side(word).or_else(|| number(word))
 }
 
 fn reading(arguments: &[&[u8]]) -> Result<(Kind, u64), Problem> {
-    match arguments {
-        [name, word] => Ok((kind(name)?, value(word)?)),
-        _ => Err(WORD_COUNT),
-    }
+    let [name, word] = arguments else {
+        return Err(READING);
+    };
+    let kind = names::kind(name).ok_or(KIND)?;
+    Ok((kind, value(word).ok_or(VALUE)?))
 }
 
 // ---- Damage ----
 
 fn damage(arguments: &[&[u8]]) -> Result<Damage, Problem> {
     match arguments {
-        [b"pf", side] => Ok(Damage::Pf(byte(side)?)),
+        [b"pf", rest @ ..] => one(rest, byte, PF).map(Damage::Pf),
         [b"reading", rest @ ..] => reading(rest).map(|(kind, bits)| Damage::Reading(kind, bits)),
-        [name, b"set", numbers @ ..] => Ok(Damage::Set(place(name)?, set(numbers)?)),
-        [name, target, amount] => Ok(Damage::Reference(
-            place(name)?,
-            reference(target)?,
-            signed(amount)?,
-        )),
-        _ => Err(WORD_COUNT),
+        [name, rest @ ..] => damage_in(names::place(name).ok_or(DAMAGE)?, rest),
+        [] => Err(DAMAGE),
+    }
+}
+
+fn damage_in(place: Place, words: &[&[u8]]) -> Result<Damage, Problem> {
+    match words {
+        [b"set", numbers @ ..] => Ok(Damage::Set(place, set(numbers).ok_or(SET)?)),
+        [target, amount] => {
+            let reference = names::reference(target).ok_or(REFERENCE)?;
+            let amount = signed(amount).ok_or(AMOUNT)?;
+            Ok(Damage::Reference(place, reference, amount))
+        }
+        _ => Err(TARGET),
     }
 }
 
 /// Lateral 0 is Off, and then the other three numbers say nothing.
-fn set(words: &[&[u8]]) -> Result<ModeSet, Problem> {
+fn set(words: &[&[u8]]) -> Option<ModeSet> {
     let [lateral, armed, vertical, vappr] = words else {
-        return Err(WORD_COUNT);
+        return None;
     };
     let numbers = (
         number(lateral)?,
@@ -144,78 +226,45 @@ fn set(words: &[&[u8]]) -> Result<ModeSet, Problem> {
         number(vappr)?,
     );
     match numbers {
-        (0, _, _, _) => Ok(ModeSet::OFF),
+        (0, _, _, _) => Some(ModeSet::OFF),
         (lateral @ 1..=5, armed @ 0..=2, vertical @ 1..=8, vappr @ 0..=1) => {
-            Ok(ModeSet::from_numbers(lateral, armed, vertical, vappr == 1))
+            Some(ModeSet::from_numbers(lateral, armed, vertical, vappr == 1))
         }
-        _ => Err("no such mode in a set"),
-    }
-}
-
-fn place(word: &[u8]) -> Result<Place, Problem> {
-    match word {
-        b"left" => Ok(Place::Side(0)),
-        b"right" => Ok(Place::Side(1)),
-        b"left-inbox" => Ok(Place::Inbox(0)),
-        b"right-inbox" => Ok(Place::Inbox(1)),
-        _ => Err("no such part of the bench"),
-    }
-}
-
-fn reference(word: &[u8]) -> Result<Reference, Problem> {
-    match word {
-        b"heading" => Ok(Reference::Heading),
-        b"preselected" => Ok(Reference::Preselected),
-        b"held" => Ok(Reference::Held),
-        b"vertical-speed" => Ok(Reference::VerticalSpeed),
-        b"ias" => Ok(Reference::Ias),
-        b"roll" => Ok(Reference::Roll),
-        b"pitch" => Ok(Reference::Pitch),
-        _ => Err("no such reference"),
-    }
-}
-
-fn kind(word: &[u8]) -> Result<Kind, Problem> {
-    match word {
-        b"altitude" => Ok(Kind::Altitude),
-        b"airspeed" => Ok(Kind::Airspeed),
-        b"vertical-speed" => Ok(Kind::VerticalSpeed),
-        b"roll" => Ok(Kind::Roll),
-        b"pitch" => Ok(Kind::Pitch),
-        b"heading" => Ok(Kind::Heading),
-        _ => Err("no such kind of reading"),
+        _ => None,
     }
 }
 
 // ---- Whole numbers ----
 
 /// At least one digit and nothing else, read as a number.
-fn digits(word: &[u8]) -> Result<u64, Problem> {
+fn digits(word: &[u8]) -> Option<u64> {
     if word.is_empty() || !word.iter().all(u8::is_ascii_digit) {
-        return Err("not a decimal number");
+        return None;
     }
     // Saturation keeps a number of any length out of range.
-    Ok(word.iter().fold(0_u64, |sum, &digit| {
+    Some(word.iter().fold(0_u64, |sum, &digit| {
         sum.saturating_mul(10)
             .saturating_add(u64::from(digit - b'0'))
     }))
 }
 
-const TOO_LARGE: Problem = "number out of range";
-
-fn number(word: &[u8]) -> Result<u32, Problem> {
-    u32::try_from(digits(word)?).map_err(|_| TOO_LARGE)
+fn number(word: &[u8]) -> Option<u32> {
+    u32::try_from(digits(word)?).ok()
 }
 
-fn byte(word: &[u8]) -> Result<u8, Problem> {
-    u8::try_from(digits(word)?).map_err(|_| TOO_LARGE)
+fn byte(word: &[u8]) -> Option<u8> {
+    u8::try_from(digits(word)?).ok()
 }
 
-fn signed(word: &[u8]) -> Result<i32, Problem> {
+fn signed(word: &[u8]) -> Option<i32> {
     let (negative, rest) = sign(word);
-    let magnitude = i64::try_from(digits(rest)?).map_err(|_| TOO_LARGE)?;
+    let magnitude = i64::try_from(digits(rest)?).ok()?;
     let value = if negative { -magnitude } else { magnitude };
-    i32::try_from(value).map_err(|_| TOO_LARGE)
+    i32::try_from(value).ok()
+}
+
+fn signed_byte(word: &[u8]) -> Option<i8> {
+    i8::try_from(signed(word)?).ok()
 }
 
 fn sign(word: &[u8]) -> (bool, &[u8]) {
@@ -228,35 +277,35 @@ fn sign(word: &[u8]) -> (bool, &[u8]) {
 // ---- Values of readings ----
 
 /// The bit pattern of a reading's value.
-fn value(word: &[u8]) -> Result<u64, Problem> {
+fn value(word: &[u8]) -> Option<u64> {
     match word {
-        b"nan" => Ok(float::NAN),
-        b"inf" => Ok(f64::INFINITY.to_bits()),
-        b"-inf" => Ok(f64::NEG_INFINITY.to_bits()),
+        b"nan" => Some(float::NAN),
+        b"inf" => Some(f64::INFINITY.to_bits()),
+        b"-inf" => Some(f64::NEG_INFINITY.to_bits()),
         [b'0', b'x', pattern @ ..] => hexadecimal(pattern),
         _ => decimal(word),
     }
 }
 
-fn hexadecimal(pattern: &[u8]) -> Result<u64, Problem> {
+fn hexadecimal(pattern: &[u8]) -> Option<u64> {
     if pattern.len() != 16 {
-        return Err("a bit pattern has 16 hexadecimal digits");
+        return None;
     }
     let bits = pattern.iter().try_fold(0, |sum, &digit| {
         let digit = char::from(digit).to_digit(16);
         Some(sum << 4 | u64::from(digit?))
-    });
-    match bits {
-        None => Err("not a hexadecimal digit"),
-        Some(bits) if float::is_nan(bits) => Ok(float::NAN),
-        Some(bits) => Ok(bits),
-    }
+    })?;
+    Some(if float::is_nan(bits) {
+        float::NAN
+    } else {
+        bits
+    })
 }
 
 const MOST_DIGITS: usize = 15;
 
 /// The float nearest to a decimal number, if that is short enough.
-fn decimal(word: &[u8]) -> Result<u64, Problem> {
+fn decimal(word: &[u8]) -> Option<u64> {
     let (_, magnitude) = sign(word);
     let point = magnitude.iter().position(|&byte| byte == b'.');
     let (units, fraction) = match point {
@@ -264,35 +313,28 @@ fn decimal(word: &[u8]) -> Result<u64, Problem> {
         Some(at) => (&magnitude[..at], Some(&magnitude[at + 1..])),
     };
     digits(units)?;
-    fraction.map_or(Ok(0), digits)?;
-    check_length(units, fraction.unwrap_or(b""))?;
-    nearest_float(word)
+    fraction.map_or(Some(0), digits)?;
+    if !is_short(units, fraction.unwrap_or(b"")) {
+        return None;
+    }
+    let text = std::str::from_utf8(word).ok()?;
+    text.parse::<f64>().ok().map(f64::to_bits)
 }
 
 /// Zeros ahead of the first other digit are not significant.
-fn check_length(units: &[u8], fraction: &[u8]) -> Result<(), Problem> {
+fn is_short(units: &[u8], fraction: &[u8]) -> bool {
     let all = units.iter().chain(fraction);
     let significant = all.skip_while(|&&digit| digit == b'0').count();
-    if significant > MOST_DIGITS {
-        Err("more than 15 significant digits")
-    } else if fraction.len() > MOST_DIGITS {
-        Err("more than 15 digits after the point")
-    } else {
-        Ok(())
-    }
-}
-
-fn nearest_float(word: &[u8]) -> Result<u64, Problem> {
-    let text = std::str::from_utf8(word).ok();
-    let value = text.and_then(|text| text.parse::<f64>().ok());
-    value.map(f64::to_bits).ok_or("not a decimal number")
+    significant <= MOST_DIGITS && fraction.len() <= MOST_DIGITS
 }
 
 #[cfg(test)]
 mod tests {
     use super::*;
 
-    fn value_of(word: &str) -> Result<u64, Problem> {
+    use crate::names::tests::{SIGNALS, SWITCHES};
+
+    fn value_of(word: &str) -> Option<u64> {
         value(word.as_bytes())
     }
 
@@ -312,11 +354,11 @@ mod tests {
             ("-inf", f64::NEG_INFINITY),
         ];
         for (word, expected) in same {
-            assert_eq!(value_of(word), Ok(expected.to_bits()), "{word}");
+            assert_eq!(value_of(word), Some(expected.to_bits()), "{word}");
         }
-        assert_eq!(value_of("-0"), Ok((-0.0_f64).to_bits()));
+        assert_eq!(value_of("-0"), Some((-0.0_f64).to_bits()));
         for word in ["nan", "0x7ff0000000000001", "0xffffffffffffffff"] {
-            assert_eq!(value_of(word), Ok(float::NAN), "{word}");
+            assert_eq!(value_of(word), Some(float::NAN), "{word}");
         }
     }
 
@@ -351,31 +393,45 @@ mod tests {
             "1000000000000000",
         ];
         for word in wrong {
-            assert!(value_of(word).is_err(), "{word}");
+            assert_eq!(value_of(word), None, "{word}");
         }
     }
 
     #[test]
     fn numbers_at_the_ends_of_their_ranges() {
-        assert_eq!(number(b"4294967295"), Ok(u32::MAX));
-        assert_eq!(number(b"0000000000004294967295"), Ok(u32::MAX));
-        assert!(number(b"4294967296").is_err());
-        assert!(number(&[b'9'; 200]).is_err());
-        assert!(number(b"-1").is_err());
-        assert!(number(b"+1").is_err());
-        assert_eq!(byte(b"255"), Ok(255));
-        assert!(byte(b"256").is_err());
-        assert_eq!(signed(b"-2147483648"), Ok(i32::MIN));
-        assert_eq!(signed(b"2147483647"), Ok(i32::MAX));
-        assert!(signed(b"2147483648").is_err());
-        assert!(signed(b"-2147483649").is_err());
-        assert!(signed(&[b'9'; 200]).is_err());
+        assert_eq!(number(b"4294967295"), Some(u32::MAX));
+        assert_eq!(number(b"0000000000004294967295"), Some(u32::MAX));
+        assert_eq!(number(b"4294967296"), None);
+        assert_eq!(number(&[b'9'; 200]), None);
+        assert_eq!(number(b"-1"), None);
+        assert_eq!(number(b"+1"), None);
+        assert_eq!(byte(b"255"), Some(255));
+        assert_eq!(byte(b"256"), None);
+        assert_eq!(signed(b"-2147483648"), Some(i32::MIN));
+        assert_eq!(signed(b"2147483647"), Some(i32::MAX));
+        assert_eq!(signed(b"2147483648"), None);
+        assert_eq!(signed(b"-2147483649"), None);
+        assert_eq!(signed(&[b'9'; 200]), None);
+        assert_eq!(signed_byte(b"-128"), Some(-128));
+        assert_eq!(signed_byte(b"127"), Some(127));
+        for word in ["-129", "128", "255", "-256", "+1", "--1", "-", "4294967295"] {
+            assert_eq!(signed_byte(word.as_bytes()), None, "{word}");
+        }
     }
 
     #[test]
     fn comments_and_spaces() {
-        for line in ["", "   ", "# event 1", "  # \u{e9}"] {
-            assert_eq!(parse(line.as_bytes()), Ok(None), "{line}");
+        for line in [
+            "",
+            "   ",
+            "\t",
+            "\r",
+            " \t\r ",
+            "# event 1",
+            "  # \u{e9}",
+            "\t#\r",
+        ] {
+            assert_eq!(parse(line.as_bytes()), Ok(None), "{line:?}");
         }
         let event = Ok(Some(Command::Event(16)));
         for line in [
@@ -383,10 +439,115 @@ mod tests {
             "  event   16  ",
             "event 16#x",
             "event 16 # x # y",
+            "event\t16",
+            "event\r16",
+            "event 16\r",
+            "\t\revent \t\r 16\t",
+            "event 16\t#\r",
         ] {
-            assert_eq!(parse(line.as_bytes()), event, "{line}");
+            assert_eq!(parse(line.as_bytes()), event, "{line:?}");
         }
         assert_eq!(parse(b"# \xff\xfe\x00"), Ok(None));
+        // Other white space parts nothing.
+        for line in ["event\u{b}16", "event\u{c}16", "event 16\u{a0}", "\u{85}"] {
+            assert!(parse(line.as_bytes()).is_err(), "{line:?}");
+        }
+    }
+
+    /// Lines that all mean the same.
+    fn assert_same(lines: &[&str], expected: Command) {
+        for line in lines {
+            assert_eq!(parse(line.as_bytes()), Ok(Some(expected)), "{line}");
+        }
+    }
+
+    #[test]
+    fn switches_and_signals_are_events() {
+        for (name, event) in SWITCHES {
+            assert_same(&[&format!("press {name}")], Command::Event(1 << event));
+            assert!(parse(format!("signal {name}").as_bytes()).is_err());
+        }
+        for (name, event) in SIGNALS {
+            assert_same(&[&format!("signal {name}")], Command::Event(1 << event));
+            assert!(parse(format!("press {name}").as_bytes()).is_err());
+        }
+    }
+
+    #[test]
+    fn sides_have_names_wherever_one_is_taken() {
+        assert_same(&["send left", "send 0", "send 00"], Command::Send(0));
+        assert_same(&["send right", "send 1"], Command::Send(1));
+        assert_same(&["refresh left", "refresh 0"], Command::Refresh(0));
+        assert_same(&["refresh right"], Command::Refresh(1));
+        assert_same(&["display left"], Command::Display(0));
+        assert_same(&["display right", "display 01"], Command::Display(1));
+        assert_same(&["display 4294967295"], Command::Display(u32::MAX));
+        assert_same(&["pick left"], Command::Pick(0));
+        assert_same(&["pick right"], Command::Pick(1));
+    }
+
+    #[test]
+    fn knobs_have_names_wherever_one_is_taken() {
+        for (name, knob) in [("wheel", 0), ("altitude", 1), ("speed", 2), ("heading", 3)] {
+            let turns = [format!("turn {name} 7"), format!("turn {knob} 7")];
+            assert_same(
+                &turns.each_ref().map(String::as_str),
+                Command::Turn(knob, 7),
+            );
+            let clicks = [
+                format!("knob {name} -9"),
+                format!("knob {knob} -9"),
+                format!("knob 00{knob} -009"),
+            ];
+            assert_same(
+                &clicks.each_ref().map(String::as_str),
+                Command::Knob(knob, -9),
+            );
+        }
+        assert_same(&["turn 4294967295 255"], Command::Turn(u32::MAX, 255));
+        assert_same(&["knob speed -128"], Command::Knob(2, -128));
+        assert_same(&["knob speed 127", "knob 2 0127"], Command::Knob(2, 127));
+        assert_same(
+            &["knob 0 0", "knob 0 -0", "knob 0 -00"],
+            Command::Knob(0, 0),
+        );
+    }
+
+    #[test]
+    fn watch_and_help() {
+        assert_same(&["watch on", "\twatch\ton\r"], Command::Watch(true));
+        assert_same(&["watch off", "watch off # on"], Command::Watch(false));
+        assert_same(&["help", " help #"], Command::Help);
+    }
+
+    #[test]
+    fn what_is_watched_can_change_the_bench() {
+        let watched = |line: &str| parse(line.as_bytes()).unwrap().unwrap().is_watched();
+        for line in [
+            "event 0",
+            "press hdg",
+            "signal nav-captured",
+            "turn 9 1",
+            "knob 0 0",
+            "reading roll nan",
+            "send 2",
+            "refresh left",
+            "power-on",
+            "damage pf 0",
+            "damage left set 0 0 0 0",
+        ] {
+            assert!(watched(line), "{line}");
+        }
+        for line in [
+            "display 0",
+            "pick right",
+            "bench",
+            "panel",
+            "watch on",
+            "help",
+        ] {
+            assert!(!watched(line), "{line}");
+        }
     }
 
     #[test]
@@ -397,24 +558,70 @@ mod tests {
             "event",
             "event 1 2",
             "event x",
-            "event\t1",
-            "event 1\r",
+            "event hdg",
+            "event left",
+            "ev\tent 1",
+            "press",
+            "press 14",
+            "press hdg nav",
+            "press Hdg",
+            "press left",
+            "press heading",
+            "signal",
+            "signal 9",
+            "signal nav",
+            "signal nav_captured",
+            "signal nav captured",
             "turn 0",
             "turn 0 256",
+            "turn 0 -1",
             "turn 0 1 2",
+            "turn left 1",
+            "turn wheel wheel",
+            "turn 4294967296 1",
+            "knob",
+            "knob wheel",
+            "knob wheel 1 2",
+            "knob 4 1",
+            "knob 4294967295 1",
+            "knob -0 1",
+            "knob left 1",
+            "knob airspeed 1",
+            "knob wheel 128",
+            "knob wheel -129",
+            "knob wheel +1",
+            "knob wheel 1.0",
+            "knob wheel up",
+            "knob 1 wheel",
             "reading speed 1",
+            "reading wheel 1",
             "reading roll",
             "reading roll 1 2",
             "power-on 1",
             "bench 0",
             "panel 0",
+            "panel left",
             "send",
+            "send both",
+            "send left right",
+            "send left-inbox",
             "refresh -1",
-            "display left",
+            "display Left",
+            "display wheel",
             "pick 4294967296",
+            "watch",
+            "watch 1",
+            "watch On",
+            "watch on off",
+            "help help",
+            "help event",
+            "Help",
             "damage",
             "damage pf",
             "damage pf 256",
+            "damage pf left",
+            "damage 0 ias 100",
+            "damage left",
             "damage left set 0 0 0",
             "damage left set 6 0 1 0",
             "damage left set 1 3 1 0",
@@ -434,6 +641,33 @@ mod tests {
         assert!(parse(b"event \xff").is_err());
         assert!(parse(b"\xff\xfe").is_err());
         assert!(parse(b"event 1\0").is_err());
+    }
+
+    #[test]
+    fn a_problem_says_what_is_accepted_where_the_line_went_wrong() {
+        for (line, accepted) in [
+            ("even 1", "knob"),
+            ("event hdg", "4294967295"),
+            ("press nav-captured", "ap-disconnect"),
+            ("signal hdg", "nav-captured"),
+            ("turn left 7", "wheel"),
+            ("turn wheel 256", "255"),
+            ("knob 4 1", "heading"),
+            ("knob heading 128", "-128 to 127"),
+            ("send both", "left"),
+            ("reading speed 1", "airspeed"),
+            ("reading roll 1e5", "hexadecimal"),
+            ("watch up", "on or off"),
+            ("damage pf 256", "255"),
+            ("damage middle ias 1", "left-inbox"),
+            ("damage left speed 1", "ias"),
+            ("damage left ias x", "-2147483648"),
+            ("damage left set 6 0 1 0", "1 to 5"),
+        ] {
+            let problem = parse(line.as_bytes()).unwrap_err();
+            assert!(problem.contains(accepted), "{line}: {problem}");
+            assert!(problem.bytes().all(|byte| (b' '..=b'~').contains(&byte)));
+        }
     }
 
     #[test]

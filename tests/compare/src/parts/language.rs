@@ -1,11 +1,14 @@
 //! The script language: what is a command, what is an error, and that an error changes nothing.
 
+mod clicks;
 mod lines;
+mod names;
 mod numbers;
+mod watch;
 
 use crate::gate::{Gate, Stop};
 use crate::rng::Rng;
-use crate::script::Script;
+use crate::script::{self, Script};
 
 const MUTATIONS: usize = 20_000;
 
@@ -24,21 +27,35 @@ pub fn run(gate: &mut Gate) -> Result<(), Stop> {
     }
     gate.check(&shown_after_each(numbers::lines()))?;
     gate.check(&shown_after_each(lines::fixed()))?;
+    gate.check(&shown_after_each(lines::separated()))?;
+    gate.check(&shown_after_each(names::everywhere()))?;
+    gate.check(&shown_after_each(names::near_misses()))?;
     gate.check(&shown_after_each(with_every_byte()))?;
     gate.check(&shown_after_each(LENGTHS.into_iter().flat_map(of_length)))?;
-    gate.check(&mutated(&mut Rng::of_list(gate.seed, LIST)))?;
+    let mut rng = Rng::of_list(gate.seed, LIST);
+    gate.check(&mutated(&mut rng))?;
+    gate.check(&clicks::singles())?;
+    gate.check(&clicks::chains(&mut rng))?;
+    gate.check(&watch::about_each())?;
+    gate.check(&watch::mixed(&mut rng))?;
     Ok(())
 }
 
 /// Each line, and then the bench, to see what the line has changed. The bench is not the one of
-/// power-on, to which a wrong answer to an error might take it back.
+/// power-on, to which a wrong answer to an error might take it back. Where the line switches the
+/// watch on, one more command is watched.
 fn shown_after_each<T: AsRef<[u8]>>(lines: impl IntoIterator<Item = T>) -> Script {
     let mut script = Script::default();
     for line in lines {
+        let watched = script::watch(line.as_ref()) == Some(true);
         script.line("power-on");
         script.line("event 16384");
         script.line(line);
         script.line("bench");
+        if watched {
+            script.line("send 0");
+            script.line("watch off");
+        }
     }
     script
 }
@@ -54,7 +71,7 @@ fn whole_scripts() -> Vec<Script> {
     scripts
 }
 
-const ENDS: [&[u8]; 18] = [
+const ENDS: [&[u8]; 32] = [
     b"",
     b"\n",
     b"\n\n\n",
@@ -73,6 +90,20 @@ const ENDS: [&[u8]; 18] = [
     b"\xff",
     b"panel",
     b"event 1\npanel\n\npanel\nbench",
+    b"\t",
+    b"\r",
+    b"\r\n",
+    b"\r\n\t\n \r\n",
+    b"event 16384\t",
+    b"event\t16384\r\nbench\r\n",
+    b"event 16384\r\r\nbench\r\r",
+    b"help",
+    b"help\nhelp\r\nbench",
+    b"watch on",
+    b"watch on\nevent 1",
+    b"watch on\npanel\nhelp\nevent 1\npanel",
+    b"watch on\npower-on\nx\n\nevent 1\nwatch off\nevent 1",
+    b"send left\nwatch off\nsend 2",
 ];
 
 /// The lines of a text, the last one without a newline if the text has none there.
@@ -95,7 +126,7 @@ fn as_script(text: &[u8]) -> Script {
 fn with_every_byte() -> Vec<Vec<u8>> {
     let mut lines = Vec::new();
     for byte in (0..=u8::MAX).filter(|&byte| byte != b'\n') {
-        let forms: [(&[u8], &[u8]); 9] = [
+        let forms: [(&[u8], &[u8]); 12] = [
             (b"", b""),
             (b"", b"event 64"),
             (b"event", b"64"),
@@ -105,6 +136,9 @@ fn with_every_byte() -> Vec<Vec<u8>> {
             (b"event 64 # ", b" x"),
             (b"# ", b""),
             (b"reading roll 0x40240000000000", b"0"),
+            (b"pre", b"ss fd-left"),
+            (b"press fd", b"left"),
+            (b"knob wheel ", b"7"),
         ];
         lines.extend(forms.map(|(before, after)| [before, &[byte], after].concat()));
     }
@@ -115,7 +149,7 @@ fn with_every_byte() -> Vec<Vec<u8>> {
 /// that cuts lines into pieces would find it.
 fn of_length(length: usize) -> Vec<Vec<u8>> {
     let event = b"event 64".as_slice();
-    let forms: [(&[u8], u8, &[u8]); 11] = [
+    let forms: [(&[u8], u8, &[u8]); 19] = [
         (b"", b' ', b""),
         (b"#", b'x', b""),
         (b"", b'x', b""),
@@ -127,6 +161,14 @@ fn of_length(length: usize) -> Vec<Vec<u8>> {
         (b"event", b' ', b"64"),
         (b"event ", b'0', b"64"),
         (b"reading roll ", b'0', b".5"),
+        (b"", b'\t', b""),
+        (b"", b'\r', b""),
+        (b"#", b'\r', b"\t"),
+        (b"event", b'\t', b"64"),
+        (b"\tevent\r", b'\r', b"64\t"),
+        (event, b' ', b"\r"),
+        (b"knob 0 -", b'0', b"7"),
+        (b"watch off", b'\r', b""),
     ];
     let filled = |(start, filler, end): (&[u8], u8, &[u8])| {
         let middle = vec![filler; length - start.len() - end.len()];
@@ -146,9 +188,11 @@ fn mutated(rng: &mut Rng) -> Script {
         if index % 4 == 3 {
             script.line("bench");
         }
-        // What stays valid may damage the bench, and all calls would be refused from there on.
+        // What stays valid may damage the bench, and all calls would be refused from there on; or
+        // it may switch the watch on, which makes much to read.
         if index % 16 == 15 {
             script.line("power-on");
+            script.line("watch off");
         }
     }
     script
@@ -176,7 +220,7 @@ fn mutate(mut line: Vec<u8>, rng: &mut Rng) -> Vec<u8> {
 /// Mostly bytes of the language, so that the line stays close to one that is valid.
 fn other_byte(rng: &mut Rng) -> u8 {
     if rng.percent(80) {
-        rng.pick(b" 0123456789-.#xabcdefnr")
+        rng.pick(b" \t\r0123456789-.#xabcdefnr")
     } else {
         rng.below(256) as u8
     }
@@ -197,7 +241,6 @@ fn with_word_changed(line: &[u8], rng: &mut Rng) -> Vec<u8> {
 #[cfg(test)]
 mod tests {
     use super::*;
-    use crate::script;
     use std::collections::BTreeSet;
 
     #[test]
@@ -205,7 +248,8 @@ mod tests {
         for length in LENGTHS {
             for line in of_length(length) {
                 assert_eq!(line.len(), length);
-                let blank = line.iter().all(|&byte| byte == b' ') || line[0] == b'#';
+                let parts = |byte: &u8| script::SEPARATORS.contains(byte);
+                let blank = line.iter().all(parts) || line[0] == b'#';
                 assert_eq!(script::is_answered(&line), length > 255 || !blank);
             }
         }
@@ -217,7 +261,7 @@ mod tests {
     #[test]
     fn every_byte_but_the_newline_stands_at_every_place() {
         let lines = with_every_byte();
-        assert_eq!(lines.len(), 255 * 9);
+        assert_eq!(lines.len(), 255 * 12);
         assert!(!lines.concat().contains(&b'\n'));
         for line in [
             b"event\t64".as_slice(),
@@ -225,6 +269,9 @@ mod tests {
             b"\0",
             b"# \x80",
             b"event 64 # \xff x",
+            b"press fd-left",
+            b"pre\tss fd-left",
+            b"knob wheel +7",
         ] {
             assert!(lines.contains(&line.to_vec()), "{line:?}");
         }
@@ -236,12 +283,13 @@ mod tests {
             assert_eq!(as_script(text).text(), text);
         }
         let scripts = whole_scripts();
-        assert_eq!(scripts.len(), ENDS.len() + LENGTHS.len() * 11);
+        assert_eq!(scripts.len(), ENDS.len() + LENGTHS.len() * 19);
         assert!(scripts[0].text().is_empty());
         let open = scripts
             .iter()
             .filter(|script| !script.text().ends_with(b"\n"));
-        assert_eq!(open.count(), scripts.len() - 2);
+        let closed = ENDS.iter().filter(|text| text.ends_with(b"\n"));
+        assert_eq!(open.count(), scripts.len() - closed.count());
     }
 
     #[test]
@@ -254,10 +302,21 @@ mod tests {
     }
 
     #[test]
+    fn the_watch_does_not_stay_on() {
+        let script = shown_after_each(["watch\ton", "watch off", "watch o"]);
+        let start = "power-on\nevent 16384\n";
+        let expected = format!(
+            "{start}watch\ton\nbench\nsend 0\nwatch off\n\
+             {start}watch off\nbench\n{start}watch o\nbench\n"
+        );
+        assert_eq!(script.text(), expected.as_bytes());
+    }
+
+    #[test]
     fn mutated_lines_are_many_and_different() {
         let script = mutated(&mut Rng::of_list(1, LIST));
         let lines = script::lines(script.text());
-        assert_eq!(lines.len(), MUTATIONS + MUTATIONS / 4 + MUTATIONS / 16);
+        assert_eq!(lines.len(), MUTATIONS + MUTATIONS / 4 + MUTATIONS / 8);
         let different: BTreeSet<&[u8]> = lines.iter().copied().collect();
         assert!(different.len() > MUTATIONS / 2, "{}", different.len());
         let answered = lines.iter().filter(|line| script::is_answered(line));

@@ -4,7 +4,7 @@ mod values;
 
 use std::collections::BTreeSet;
 
-use super::words::{self, Set, BOXES, KINDS, REFERENCES};
+use super::words::{self, Set, BOXES, KINDS, KNOBS, REFERENCES, SIDES};
 use crate::compare;
 use crate::gate::{Gate, Stop};
 use crate::rng::Rng;
@@ -33,7 +33,7 @@ pub fn run(gate: &mut Gate) -> Result<(), Stop> {
 
 /// Lateral law, vertical law and armed sum of the accepted displays with modes on.
 fn collect_shown(output: &[u8], shown: &mut BTreeSet<Vec<u8>>) {
-    for answer in compare::answers(output) {
+    for answer in compare::blocks(output) {
         let words: Vec<&[u8]> = answer.split(|&byte| byte == b' ').collect();
         if let [b"display", b"0", _, lateral, vertical, armed, ..] = words[..] {
             if lateral != b"0" {
@@ -82,6 +82,9 @@ const CALM: [(usize, Make); 8] = [
     (20, |_| "bench".to_string()),
 ];
 
+/// How many of a hundred events, knobs and sides are named where they can be.
+const NAMED: usize = 40;
+
 /// Events by weight: those that arm and capture more often than those that clear, because an
 /// approach needs several of them in a row.
 const EVENTS: [(usize, u32); 20] = [
@@ -108,10 +111,11 @@ const EVENTS: [(usize, u32); 20] = [
 ];
 
 /// What only the other lists have.
-const ROUGH: [(usize, Make); 4] = [
+const ROUGH: [(usize, Make); 5] = [
     (10, Maker::damage),
     (8, |maker| maker.rng.pick(&ERRORS).to_string()),
     (2, |_| "panel".to_string()),
+    (1, |_| "help".to_string()),
     (1, Maker::power_on),
 ];
 
@@ -149,6 +153,9 @@ impl Maker {
             98 => self.rng.pick(&[1 << 20, 1 << 31, u32::MAX, (1 << 20) - 1]),
             _ => any,
         };
+        if word.is_power_of_two() && word >> 20 == 0 && self.rng.percent(NAMED) {
+            return words::by_name(word.trailing_zeros());
+        }
         format!("event {word}")
     }
 
@@ -165,7 +172,16 @@ impl Maker {
         }
         let count = self.counts[knob].wrapping_add(step as u8);
         self.counts[knob] = count;
-        format!("turn {knob} {count}")
+        let name = if self.rng.percent(NAMED) {
+            KNOBS[knob].to_string()
+        } else {
+            knob.to_string()
+        };
+        if self.rng.percent(NAMED) {
+            format!("knob {name} {step}")
+        } else {
+            format!("turn {name} {count}")
+        }
     }
 
     fn reading(&mut self) -> String {
@@ -182,7 +198,10 @@ impl Maker {
             0..=96 => self.rng.below(2) as u32,
             _ => self.rng.pick(&[2, 3, 256, 1 << 31, u32::MAX]),
         };
-        format!("{command} {side}")
+        match SIDES.get(side as usize) {
+            Some(name) if self.rng.percent(NAMED) => format!("{command} {name}"),
+            _ => format!("{command} {side}"),
+        }
     }
 
     fn damage(&mut self) -> String {
@@ -217,23 +236,29 @@ impl Maker {
 }
 
 /// Each is answered by an error.
-const ERRORS: [&str; 16] = [
+const ERRORS: [&str; 22] = [
     "event",
     "event x",
     "event 4294967296",
     "event 1 2",
+    "event,1",
+    "event hdg",
+    "press 14",
+    "press nav-captured",
+    "signal hdg",
     "turn 0 256",
     "turn 0",
+    "knob 4 1",
+    "knob wheel 128",
     "reading roll 1e5",
     "reading speed 1",
     "reading roll 0x123",
-    "send left",
+    "send both",
     "refresh -1",
     "Display 0",
     "power-on 1",
     "damage left set 6 0 1 0",
     "damage left ias 2147483648",
-    "event\t1",
 ];
 
 #[cfg(test)]
@@ -270,7 +295,8 @@ mod tests {
             let script = list(1, number, 20_000);
             let counts = counts(&script);
             for name in [
-                "event", "turn", "reading", "send", "refresh", "display", "pick", "bench",
+                "event", "press", "signal", "turn", "knob", "reading", "send", "refresh",
+                "display", "pick", "bench",
             ] {
                 assert!(counts.get(name) > Some(&250), "{name} {counts:?}");
             }
@@ -280,7 +306,7 @@ mod tests {
     #[test]
     fn only_rough_lists_have_damage_and_errors() {
         let (calm, rough) = (list(1, 0, 20_000), list(1, 1, 20_000));
-        for name in ["damage", "power-on", "panel", "Display"] {
+        for name in ["damage", "power-on", "panel", "help", "Display"] {
             assert_eq!(counts(&calm).get(name), None, "{name}");
             assert!(counts(&rough).contains_key(name), "{name}");
         }
@@ -304,6 +330,30 @@ mod tests {
             "reading roll nan",
         ] {
             assert!(lines.iter().any(|other| other.starts_with(line)), "{line}");
+        }
+    }
+
+    #[test]
+    fn every_name_comes_and_the_watch_stays_off() {
+        for number in 0..2 {
+            let script = list(1, number, 200_000);
+            let lines: BTreeSet<&str> = text(&script).lines().collect();
+            for event in 0..20 {
+                let line = words::by_name(event);
+                assert!(lines.contains(line.as_str()), "{line}");
+            }
+            for knob in ["wheel", "altitude", "speed", "heading", "0", "3"] {
+                for line in [format!("turn {knob} 7"), format!("knob {knob} -5")] {
+                    assert!(lines.contains(line.as_str()), "{line}");
+                }
+            }
+            for command in ["send", "refresh", "display", "pick"] {
+                for side in ["left", "right", "0", "1", "2"] {
+                    let line = format!("{command} {side}");
+                    assert!(lines.contains(line.as_str()), "{line}");
+                }
+            }
+            assert!(!lines.iter().any(|line| line.starts_with("watch")));
         }
     }
 

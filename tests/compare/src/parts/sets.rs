@@ -52,7 +52,7 @@ fn probe() -> Script {
 
 /// The accepted sets, Off first, and the refused ones, from the answers to the probe.
 fn sort(output: &[u8]) -> Result<(Vec<Set>, Vec<Set>), String> {
-    let answers = compare::answers(output);
+    let answers = compare::blocks(output);
     let verdicts = answers.into_iter().skip(2).step_by(3);
     let (mut accepted, mut refused) = (Vec::new(), Vec::new());
     for (set, verdict) in candidates().into_iter().zip(verdicts) {
@@ -92,7 +92,7 @@ fn incoherent(refused: &[Set]) -> Script {
 }
 
 fn all_refused(output: &[u8]) -> Result<(), String> {
-    let mut answers = compare::answers(output).into_iter().skip(2).step_by(5);
+    let mut answers = compare::blocks(output).into_iter().skip(2).step_by(5);
     match answers.position(|answer| answer != b"event 1 32\n") {
         None => Ok(()),
         Some(index) => Err(format!(
@@ -224,7 +224,7 @@ fn say_trial(script: &mut Script, trial: Trial) {
 /// Whether the benches shown are those that the cases ask for; else the part would try less than
 /// it says.
 fn in_place(output: &[u8], cases: &[Case]) -> Result<(), String> {
-    let answers = compare::answers(output);
+    let answers = compare::blocks(output);
     for case in cases {
         let shown = String::from_utf8_lossy(answers[case.shown_at]);
         if !is_shown(&shown, case) {

@@ -187,7 +187,7 @@ mod tests {
         for case in CASES {
             let (script, paper) = texts(case);
             assert_eq!(script.commands(), case.len());
-            assert_eq!(compare::answers(paper.as_bytes()).len(), case.len());
+            assert_eq!(compare::blocks(paper.as_bytes()).len(), case.len());
             for (command, answer) in case {
                 assert_eq!(command.split(' ').next(), answer.split(' ').next());
             }

@@ -33,6 +33,47 @@ pub const REFERENCES: [Ranged; 7] = [
     ranged("pitch", -20, 20),
 ];
 
+/// The switches, each with its event.
+pub const SWITCHES: [(&str, u32); 12] = [
+    ("ap-disconnect", 0),
+    ("ap", 1),
+    ("go-around", 4),
+    ("transfer", 5),
+    ("fd-left", 6),
+    ("fd-right", 7),
+    ("hdg", 14),
+    ("nav", 15),
+    ("appr", 16),
+    ("vs", 17),
+    ("flc", 18),
+    ("alt", 19),
+];
+
+/// The signals, each with its event.
+pub const SIGNALS: [(&str, u32); 8] = [
+    ("overspeed-begins", 2),
+    ("overspeed-ends", 3),
+    ("source-changed", 8),
+    ("nav-captured", 9),
+    ("lappr-captured", 10),
+    ("vappr-captured", 11),
+    ("altsel-captured", 12),
+    ("altsel-on-track", 13),
+];
+
+/// The line that names an event from 0 to 19.
+pub fn by_name(event: u32) -> String {
+    let find = |table: &[(&'static str, u32)]| table.iter().find(|row| row.1 == event).copied();
+    match (find(&SWITCHES), find(&SIGNALS)) {
+        (Some((name, _)), _) => format!("press {name}"),
+        (None, Some((name, _))) => format!("signal {name}"),
+        (None, None) => panic!("there is no event {event}"),
+    }
+}
+
+/// In the order of their numbers.
+pub const KNOBS: [&str; 4] = ["wheel", "altitude", "speed", "heading"];
+
 pub const SIDES: [&str; 2] = ["left", "right"];
 pub const BOXES: [&str; 4] = ["left", "right", "left-inbox", "right-inbox"];
 
@@ -116,6 +157,15 @@ mod tests {
         assert_eq!(sets.len(), 240);
         assert!(sets.contains("1 0 1 0") && sets.contains("5 2 8 1"));
         assert_eq!(Set::OFF.to_string(), "0 0 0 0");
+    }
+
+    #[test]
+    fn every_event_has_one_name() {
+        let names: BTreeSet<String> = (0..20).map(by_name).collect();
+        assert_eq!(names.len(), 20);
+        assert_eq!(SWITCHES.len() + SIGNALS.len(), 20);
+        assert_eq!(by_name(0), "press ap-disconnect");
+        assert_eq!(by_name(13), "signal altsel-on-track");
     }
 
     #[test]

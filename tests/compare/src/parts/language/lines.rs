@@ -1,7 +1,7 @@
 //! Lines that are commands, and lines that look like commands.
 
 /// One of each form, as they should be.
-pub const VALID: [&str; 30] = [
+pub const VALID: [&str; 45] = [
     "event 16384",
     "event 0",
     "event 4294967295",
@@ -32,7 +32,51 @@ pub const VALID: [&str; 30] = [
     "damage left-inbox held -8000",
     "damage right ias 250",
     "damage reading vertical-speed 300.5",
+    "press hdg",
+    "press ap-disconnect",
+    "signal nav-captured",
+    "signal overspeed-begins",
+    "turn heading 9",
+    "knob wheel -9",
+    "knob 3 127",
+    "knob altitude -128",
+    "send left",
+    "refresh right",
+    "display right",
+    "pick left",
+    "watch on",
+    "watch off",
+    "help",
 ];
+
+/// What parts words, alone and in company.
+const SEPARATORS: [&str; 11] = [
+    " ", "\t", "\r", "\t\t", " \t", "\t ", "\r ", " \r", "\t\r", "\r\t", " \t\r ",
+];
+
+/// What looks like white space and parts nothing.
+const NO_SEPARATORS: [&str; 6] = ["\u{b}", "\u{c}", "\0", "\u{85}", "\u{a0}", "\u{2003}"];
+
+/// Every separator between the words of a line, ahead of it, after it, and about its comment.
+pub fn separated() -> Vec<String> {
+    let mut lines = Vec::new();
+    for line in VALID {
+        for parts in SEPARATORS.iter().chain(&NO_SEPARATORS) {
+            let inside = line.replace(' ', parts);
+            lines.extend([
+                format!("{parts}{line}"),
+                format!("{line}{parts}"),
+                format!("{parts}{inside}{parts}"),
+                format!("{inside}{parts}#{parts}x{parts}"),
+                format!("{parts}#{parts}{line}{parts}"),
+            ]);
+            lines.push(inside);
+        }
+    }
+    lines.extend(SEPARATORS.map(String::from));
+    lines.extend(NO_SEPARATORS.map(String::from));
+    lines
+}
 
 /// Lines with too few and too many words, then others that are written out.
 pub fn fixed() -> Vec<String> {
@@ -73,7 +117,7 @@ fn capitalized(line: &str) -> String {
     first.to_uppercase() + rest
 }
 
-const ODD: [&str; 62] = [
+const ODD: [&str; 74] = [
     "",
     "   ",
     "#",
@@ -136,6 +180,18 @@ const ODD: [&str; 62] = [
     "damage inbox heading 1",
     "damage left_inbox heading 1",
     "damage 0 heading 1",
+    "damage wheel 1",
+    "damage watch on",
+    "press hdg nav",
+    "press event 16384",
+    "signal press hdg",
+    "knob wheel",
+    "knob wheel up",
+    "knob -1 wheel",
+    "watch on off",
+    "watch on on",
+    "unwatch",
+    "help help",
 ];
 
 #[cfg(test)]
@@ -147,7 +203,7 @@ mod tests {
     fn every_command_of_the_language_is_there() {
         for name in [
             "event", "turn", "reading", "send", "refresh", "display", "pick", "power-on", "bench",
-            "panel", "damage",
+            "panel", "damage", "press", "signal", "knob", "watch", "help",
         ] {
             let found = VALID
                 .iter()
@@ -176,6 +232,29 @@ mod tests {
             assert!(all.contains(&line.to_string()), "{line}");
         }
         assert!(all.iter().all(|line| !line.contains('\n')));
+    }
+
+    #[test]
+    fn every_separator_stands_at_every_place() {
+        let all = separated();
+        let parts = SEPARATORS.len() + NO_SEPARATORS.len();
+        assert_eq!(all.len(), parts * (6 * VALID.len() + 1));
+        for line in [
+            "\tpress hdg",
+            "press hdg\r",
+            "press\thdg",
+            "\rknob\rwheel\r-9\r",
+            "knob \twheel \t-9",
+            "help\t#\tx\t",
+            "\r#\rwatch on\r",
+            "send\u{b}left",
+            "\t",
+            " \t\r ",
+        ] {
+            assert!(all.contains(&line.to_string()), "{line:?}");
+        }
+        let silent = all.iter().filter(|line| !is_answered(line.as_bytes()));
+        assert_eq!(silent.count(), SEPARATORS.len() * (VALID.len() + 1));
     }
 
     #[test]

@@ -1,7 +1,7 @@
 //! Numbers of every form, good and bad, at every place that takes one.
 
 /// The places; each takes a number where the braces stand.
-const PLACES: [&str; 19] = [
+const PLACES: [&str; 26] = [
     "event {}",
     "turn {} 7",
     "turn 1 {}",
@@ -21,11 +21,18 @@ const PLACES: [&str; 19] = [
     "reading roll {}",
     "damage reading altitude {}",
     "damage reading pitch -{}",
+    "knob {} 7",
+    "knob 1 {}",
+    "knob heading -{}",
+    "press {}",
+    "signal {}",
+    "watch {}",
+    "help {}",
 ];
 
 /// Whole numbers about the ends of 8, 16, 32, 63 and 64 bits, and ones that would be small if
 /// they were cut to fewer bits.
-const WHOLE: [&str; 52] = [
+const WHOLE: [&str; 63] = [
     "0",
     "1",
     "2",
@@ -40,8 +47,11 @@ const WHOLE: [&str; 52] = [
     "01",
     "007",
     "0000000000000000000000000000000000000001",
+    "126",
     "127",
+    "0127",
     "128",
+    "129",
     "255",
     "256",
     "257",
@@ -71,7 +81,15 @@ const WHOLE: [&str; 52] = [
     "-0",
     "-1",
     "-2",
+    "-00",
+    "-007",
+    "-126",
+    "-127",
+    "-128",
+    "-0128",
+    "-129",
     "-255",
+    "-256",
     "-2147483647",
     "-2147483648",
     "-2147483649",
@@ -195,8 +213,8 @@ mod tests {
 
     #[test]
     fn every_form_stands_at_every_place() {
-        let numbers = 52 + 72 + 16 + 4;
-        assert_eq!(lines().len(), 19 * numbers);
+        let numbers = 63 + 72 + 16 + 4;
+        assert_eq!(lines().len(), 26 * numbers);
     }
 
     #[test]
@@ -225,6 +243,16 @@ mod tests {
             "reading roll 1.",
             "reading roll .5",
             "reading roll 1e5",
+            "knob 3 7",
+            "knob 4 7",
+            "knob -0 7",
+            "knob 4294967296 7",
+            "knob 1 127",
+            "knob 1 128",
+            "knob 1 -128",
+            "knob 1 -129",
+            "knob 1 +1",
+            "knob 1 1.0",
         ] {
             assert!(all.contains(&line.to_string()), "{line}");
         }
