@@ -7,13 +7,13 @@ use Rattle.numerals.specs.Integers.{signedAs}
 use Rattle.numerals.specs.Values.{patternOf, decimalAs}
 use Rattle.numerals.specs.Numbers.{clicksIn}
 use Rattle.scripts.specs.Commands.{commandNames, eventNames, sideNames, knobNames, kindNames, watchNames, damageNames, partNames, endsAt, namedIn}
-use Rattle.scripts.specs.Commands.{eventOf, withSide, knobAt, turnBy, turnOf, clicksBy, clicksOf, eventNamed, pressBy, signalBy, watchBy, readingAt, figureAt, setBy}
+use Rattle.scripts.specs.Commands.{eventOf, withSide, knobAt, turnBy, turnOf, clicksBy, clicksOf, eventNamed, eventIf, watchBy, readingAt, figureAt, setBy}
 use Rattle.scripts.specs.Commands.{damagePf, damageSet, damageReference, damagePart, damageBy, commandBy, commandIn, commandOf}
 use Rattle.scripts.specs.Lines.{Lines}
 
 pub lines : Lines
 unfolding upTo pastSpaces firstWord pastWord wordOf allDigits numeralValue isNumeral numberIn clicksIn signedAs patternOf decimalAs
     commandNames eventNames sideNames knobNames kindNames watchNames damageNames partNames endsAt namedIn
-    eventOf withSide knobAt turnBy turnOf clicksBy clicksOf eventNamed pressBy signalBy watchBy readingAt figureAt setBy
+    eventOf withSide knobAt turnBy turnOf clicksBy clicksOf eventNamed eventIf watchBy readingAt figureAt setBy
     damagePf damageSet damageReference damagePart damageBy commandBy commandIn commandOf
 lines = record { each = refl }

@@ -184,15 +184,19 @@ isSignal n = leb 2 n && leb n 3 || leb 8 n && leb n 13
 abbrev pub isSwitch : ℕ → Bool
 isSwitch n = leb n 19 && not (isSignal n)
 
-unfoldable pub pressBy : ℕ → List ℕ → Command
-pressBy n text = cond (isSwitch n) (endsAt text 2 (Command.Event (2 ^ n))) (Command.Wrong noSwitch)
-
-unfoldable pub signalBy : ℕ → List ℕ → Command
-signalBy n text = cond (isSignal n) (endsAt text 2 (Command.Event (2 ^ n))) (Command.Wrong noSignal)
-
 -- the event whose name word 1 is; 20 where it is none's
 unfoldable pub eventNamed : List ℕ → ℕ
 eventNamed text = lookupOf (wordOf text 1) eventNames 20
+
+-- event n, if it is one of those that the command takes
+unfoldable pub eventIf : Bool → ℕ → ℕ → List ℕ → Command
+eventIf taken why n text = cond taken (endsAt text 2 (Command.Event (2 ^ n))) (Command.Wrong why)
+
+abbrev pub pressOf : List ℕ → Command
+pressOf text = eventIf (isSwitch (eventNamed text)) noSwitch (eventNamed text) text
+
+abbrev pub signalOf : List ℕ → Command
+signalOf text = eventIf (isSignal (eventNamed text)) noSignal (eventNamed text) text
 
 -- ---- watch on, watch off
 
@@ -324,8 +328,8 @@ commandBy command text =
     (cond (eqb command 5) (turnOf text)
     (cond (eqb command 6) (clicksOf text)
     (cond (eqb command 7) (ifReading (readingAt text 1) (λ r. endsAt text 3 (Command.Reading r)))
-    (cond (eqb command 8) (pressBy (eventNamed text) text)
-    (cond (eqb command 9) (signalBy (eventNamed text) text)
+    (cond (eqb command 8) (pressOf text)
+    (cond (eqb command 9) (signalOf text)
     (cond (eqb command 10) (endsAt text 1 Command.PowerOn)
     (cond (eqb command 11) (endsAt text 1 Command.Bench)
     (cond (eqb command 12) (endsAt text 1 Command.Panel)

@@ -3,10 +3,11 @@ mod damage;
 mod places;
 
 ghost use mathlib.Core.Path.{_≡_};
+ghost use mathlib.Core.Bool.{true};
 ghost use Prim.Native.Nat.{_<_, _^_};
 ghost use Rattle.words.specs.Words.{wordOf, lookupOf};
 ghost use Rattle.scripts.specs.Commands.{endsAt, readingAt, ifReading, eventOf, sideBy, withSide, knobAt, turnBy, turnOf, clicksBy, clicksOf};
-ghost use Rattle.scripts.specs.Commands.{isSignal, isSwitch, pressBy, signalBy, eventNamed, watchNames, watchBy, commandBy, commandIn, commandOf};
+ghost use Rattle.scripts.specs.Commands.{isSignal, isSwitch, eventNamed, eventIf, pressOf, signalOf, watchNames, watchBy, commandBy, commandIn, commandOf};
 use bench::Reading;
 use damage::damage;
 use modes::ModeSet;
@@ -204,22 +205,29 @@ fn word_of(n: usize) -> u32
     1 << n
 }
 
-fn press_by(n: usize, text: &[u8]) -> Command
-    ensures { λ res. ⌜ res ≡ pressBy n (now (text .entry)) ⌝ }
+// Event n, if it is one of those that the command takes; else what is wrong.
+fn event_if(taken: bool, why: u32, n: usize, text: &[u8]) -> Command
+    requires { ⌜ (taken ≡ true → n < 20) ⌝ }
+    ensures { λ res. ⌜ res ≡ eventIf taken why n (now (text .entry)) ⌝ }
 {
-    if is_switch(n) {
+    if taken {
         return ends_at(text, 2, Command::Event(word_of(n)));
     }
-    Command::Wrong(NO_SWITCH)
+    Command::Wrong(why)
 }
 
-fn signal_by(n: usize, text: &[u8]) -> Command
-    ensures { λ res. ⌜ res ≡ signalBy n (now (text .entry)) ⌝ }
+fn press(text: &[u8]) -> Command
+    ensures { λ res. ⌜ res ≡ pressOf (now (text .entry)) ⌝ }
 {
-    if is_signal(n) {
-        return ends_at(text, 2, Command::Event(word_of(n)));
-    }
-    Command::Wrong(NO_SIGNAL)
+    let n = event_named(text);
+    event_if(is_switch(n), NO_SWITCH, n, text)
+}
+
+fn signal(text: &[u8]) -> Command
+    ensures { λ res. ⌜ res ≡ signalOf (now (text .entry)) ⌝ }
+{
+    let n = event_named(text);
+    event_if(is_signal(n), NO_SIGNAL, n, text)
 }
 
 fn watch(text: &[u8]) -> Command
@@ -252,8 +260,8 @@ fn command_by(command: usize, text: &[u8]) -> Command
         5 => turn(text),
         6 => clicks(text),
         7 => reading(text),
-        8 => press_by(event_named(text), text),
-        9 => signal_by(event_named(text), text),
+        8 => press(text),
+        9 => signal(text),
         10 => ends_at(text, 1, Command::PowerOn),
         11 => ends_at(text, 1, Command::Bench),
         12 => ends_at(text, 1, Command::Panel),

@@ -9,13 +9,13 @@ pub command-by-spec : {M : Type 1} → statement M
 unfolding commandBy
 command-by-spec =
     tie.close (tie.spec
-    (λ c κs. search needs) (λ c κs. search needs) (λ c κs. search needs) (λ c κs. search needs) (λ c κs. search needs) (λ c κs. search needs) (λ c κs. search needs) (λ c κs. search needs) (λ c κs. search needs) (λ c κs. search needs) (λ c κs. search needs) (λ c κs. search needs) (λ c κs. search needs) (λ c κs. search needs) (λ c κs. search needs)
+    (λ c κs. search needs) (λ c κs. search needs) (λ c κs. search needs) (λ c κs. search needs) (λ c κs. search needs) (λ c κs. search needs) (λ c κs. search needs) (λ c κs. search needs) (λ c κs. search needs) (λ c κs. search needs) (λ c κs. search needs) (λ c κs. search needs) (λ c κs. search needs)
     (λ c. rw (c .before .match .keys1) (c .event .ensures))
     (λ c. rw (c .before .match .keys2) (c .turn .ensures))
     (λ c. rw (c .before .match .keys3) (c .clicks .ensures))
     (λ c. rw (c .before .match .keys4) (c .reading .ensures))
-    (λ c. rw (c .before .before .match .keys5, c .press-by .ensures, c .before .event-named .ensures))
-    (λ c. rw (c .before .before .match .keys6, c .signal-by .ensures, c .before .event-named2 .ensures))
+    (λ c. rw (c .before .match .keys5) (c .press .ensures))
+    (λ c. rw (c .before .match .keys6) (c .signal .ensures))
     (λ c. rw (c .before .match .keys7) (c .ends-at .ensures))
     (λ c. rw (c .before .match .keys8) (c .ends-at2 .ensures))
     (λ c. rw (c .before .match .keys9) (c .ends-at3 .ensures))
