@@ -37,7 +37,7 @@ pub(crate) fn put_error(out: &mut [u8], waiting: usize, line: u64, wrong: u32) -
     put(out, at, b'\n')
 }
 
-// The commands, a line each, between a line 'help' and a line 'end'.
+// The list of commands, framed by 'help' and 'end'.
 pub(crate) fn put_help(out: &mut [u8], waiting: usize) -> usize {
     let at = put_text(
         out,
