@@ -1,31 +1,103 @@
-// The answer to a line that is no command, and the list of commands.
+// The answer to a line that is no command, and the list of commands. A line went wrong in some place, by the numbers of
+// the constants of `scripts`; the text says what is taken there.
 use crate::output::put;
-use crate::output::put_nth;
 use crate::output::put_number;
 use crate::output::put_text;
 
-// What is wrong with a line and what is accepted instead, by the numbers of the constants of `scripts`, from 1.
+// In a damage command.
+fn put_damage_reason(out: &mut [u8], waiting: usize, wrong: u32) -> usize {
+    match wrong {
+        scripts::NO_DAMAGE => put_text(
+            out,
+            waiting,
+            b"damage takes left, right, left-inbox, right-inbox, reading or pf",
+        ),
+        scripts::NO_PF => put_text(out, waiting, b"N is a number from 0 to 255"),
+        scripts::NO_REFERENCE => put_text(
+            out,
+            waiting,
+            b"behind the box stands heading, preselected, held, vertical-speed, ias, roll, pitch or set",
+        ),
+        scripts::NO_SIGNED => put_text(
+            out,
+            waiting,
+            b"N is a number from -2147483648 to 2147483647",
+        ),
+        _ => put_text(
+            out,
+            waiting,
+            b"a set is LATERAL 1 to 5, ARMED 0 to 2, VERTICAL 1 to 8, VAPPR-ARMED 0 or 1, or 0 and three \
+numbers for Off",
+        ),
+    }
+}
+
+// In a number, a name that stands for one, or a reading.
+fn put_number_reason(out: &mut [u8], waiting: usize, wrong: u32) -> usize {
+    match wrong {
+        scripts::NO_WORD => put_text(out, waiting, b"WORD is a number from 0 to 4294967295"),
+        scripts::NO_SIDE => put_text(
+            out,
+            waiting,
+            b"SIDE is left, right or a number from 0 to 4294967295",
+        ),
+        scripts::NO_KNOB_NUMBER => put_text(
+            out,
+            waiting,
+            b"KNOB is wheel, altitude, speed, heading or a number from 0 to 4294967295",
+        ),
+        scripts::NO_COUNT => put_text(out, waiting, b"COUNT is a number from 0 to 255"),
+        scripts::NO_KNOB => put_text(
+            out,
+            waiting,
+            b"KNOB is wheel, altitude, speed, heading or a number from 0 to 3",
+        ),
+        scripts::NO_CLICKS => put_text(out, waiting, b"CLICKS is a number from -128 to 127"),
+        scripts::NO_KIND => put_text(
+            out,
+            waiting,
+            b"KIND is altitude, airspeed, vertical-speed, roll, pitch or heading",
+        ),
+        scripts::NO_VALUE => put_text(
+            out,
+            waiting,
+            b"VALUE is a number like -12.5, of at most 15 significant digits and 15 after the point, or \
+0x and 16 hexadecimal digits, or nan, inf or -inf",
+        ),
+        _ => put_damage_reason(out, waiting, wrong),
+    }
+}
+
+// In the line as a whole, or in a name of its own.
 fn put_reason(out: &mut [u8], waiting: usize, wrong: u32) -> usize {
-    let reasons = b"- the_line_has_more_than_255_bytes \
-        no_such_command;_there_are_event,_press,_signal,_turn,_knob,_reading,_send,_refresh,_display,_pick,_\
-power-on,_bench,_panel,_watch,_help_and_damage \
-        a_word_too_many;_nothing_but_a_comment,_from_#_on,_may_follow_here \
-        WORD_is_a_number_from_0_to_4294967295 SIDE_is_left,_right_or_a_number_from_0_to_4294967295 \
-        KNOB_is_wheel,_altitude,_speed,_heading_or_a_number_from_0_to_4294967295 \
-        COUNT_is_a_number_from_0_to_255 KNOB_is_wheel,_altitude,_speed,_heading_or_a_number_from_0_to_3 \
-        CLICKS_is_a_number_from_-128_to_127 \
-        SWITCH_is_ap-disconnect,_ap,_go-around,_transfer,_fd-left,_fd-right,_hdg,_nav,_appr,_vs,_flc_or_alt \
-        SIGNAL_is_overspeed-begins,_overspeed-ends,_source-changed,_nav-captured,_lappr-captured,_\
-vappr-captured,_altsel-captured_or_altsel-on-track watch_takes_on_or_off \
-        KIND_is_altitude,_airspeed,_vertical-speed,_roll,_pitch_or_heading \
-        VALUE_is_a_number_like_-12.5,_of_at_most_15_significant_digits_and_15_after_the_point,_or_\
-0x_and_16_hexadecimal_digits,_or_nan,_inf_or_-inf \
-        damage_takes_left,_right,_left-inbox,_right-inbox,_reading_or_pf N_is_a_number_from_0_to_255 \
-        behind_the_box_stands_heading,_preselected,_held,_vertical-speed,_ias,_roll,_pitch_or_set \
-        N_is_a_number_from_-2147483648_to_2147483647 \
-        a_set_is_LATERAL_1_to_5,_ARMED_0_to_2,_VERTICAL_1_to_8,_VAPPR-ARMED_0_or_1,_or_0_and_three_\
-numbers_for_Off";
-    put_nth(out, waiting, reasons, wrong as usize, 0)
+    match wrong {
+        scripts::TOO_LONG => put_text(out, waiting, b"the line has more than 255 bytes"),
+        scripts::NO_COMMAND => put_text(
+            out,
+            waiting,
+            b"no such command; there are event, press, signal, turn, knob, reading, send, refresh, \
+display, pick, power-on, bench, panel, watch, help and damage",
+        ),
+        scripts::TOO_MANY => put_text(
+            out,
+            waiting,
+            b"a word too many; nothing but a comment, from # on, may follow here",
+        ),
+        scripts::NO_SWITCH => put_text(
+            out,
+            waiting,
+            b"SWITCH is ap-disconnect, ap, go-around, transfer, fd-left, fd-right, hdg, nav, appr, vs, \
+flc or alt",
+        ),
+        scripts::NO_SIGNAL => put_text(
+            out,
+            waiting,
+            b"SIGNAL is overspeed-begins, overspeed-ends, source-changed, nav-captured, lappr-captured, \
+vappr-captured, altsel-captured or altsel-on-track",
+        ),
+        scripts::NO_WATCH => put_text(out, waiting, b"watch takes on or off"),
+        _ => put_number_reason(out, waiting, wrong),
+    }
 }
 
 // 'error', the line's number, and what is wrong.
