@@ -1,6 +1,6 @@
 // Draws both panels, side by side, with what their displays show, and the overspeed flag, which no display shows.
 // A row has 35 columns between a border and a space on either side, so that both panels fit 80 columns.
-ghost use Prim.Native.Nat.{_<_, _≤_};
+ghost use Prim.Native.Nat.{_<_};
 use crate::output::put;
 use crate::output::put_next;
 use crate::output::put_nth;

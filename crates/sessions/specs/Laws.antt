@@ -29,9 +29,9 @@ abbrev pub written : List (List ℕ) → List ℕ → List ℕ
 written [] last = last
 written (line ∷ more) last = line ++ 10 ∷ written more last
 
--- n clicks, back or forward, modulo 256
-abbrev pub clicksOf : Bool → ℕ → ℕ
-clicksOf back n = cond back (clicksBack n) n
+-- what n clicks, back or forward, add to a count
+abbrev pub added : Bool → ℕ → ℕ
+added back n = cond back (clicksBack n) n
 
 pub record SessionLaws : Type 0 where
   -- a session that begins with a room of 256 bytes, whatever they are, reads every script, in whatever pieces it comes
@@ -41,4 +41,4 @@ pub record SessionLaws : Type 0 where
   pub no-end : (script : List ℕ) (k i : ℕ) → getD (getD (linesOf script .ended) k []) i 0 ≡ 10 → ⊥
   pub no-end-last : (script : List ℕ) (i : ℕ) → getD (linesOf script .last) i 0 ≡ 10 → ⊥
   -- a knob line turns its knob by its clicks: back by 128 at most, or forward by 127
-  pub turns : (last : ℕ) (back : Bool) (n : ℕ) → last < 256 → n ≤ cond back 128 127 → rotationOf last ((last + clicksOf back n) % 256) ≡ signedOf back n
+  pub turns : (last : ℕ) (back : Bool) (n : ℕ) → last < 256 → n ≤ cond back 128 127 → rotationOf last ((last + added back n) % 256) ≡ signedOf back n

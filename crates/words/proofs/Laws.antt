@@ -5,9 +5,8 @@ use mathlib.Core.List.{List, [], _∷_}
 use Prim.Native.Nat.{ℕ, zero, suc, _<_}
 use native.Mathlib.Nat.{le-of-suc-le-suc, not-suc-le-zero}
 use native.Mathlib.Omega.{arith}
-use borrow.Author.Tests.{eqb-true, eqb-false, not-true, not-false}
-use lib.Dec.{eqb}
-use lib.ListN.{length, getD, take, drop, take-append-drop, length-take}
+use borrow.Author.Tests.{eqb-false, not-true, not-false}
+use lib.ListN.{length, getD, drop, take-append-drop, length-take}
 use lib.Seq.{getD-take}
 use Rattle.words.specs.Words.{run, isSpace, leading, placeOf, upTo, pastSpaces, firstWord, pastWord, rest, wordOf, sameBytes, lookupOf}
 use Rattle.words.specs.Laws.{IsFirst, WordLaws, Example}

@@ -1,6 +1,5 @@
 -- `scripts::side_by` meets its contract: each arm is the case that its number picks, and the last one that where none does. Assumes nothing.
 use borrow.Author.Tests.{ne-eqb}
-use borrow.Author.Needs.{needs}
 use Rattle.scripts.proofs.side_by.Statement.{statement}
 use Rattle.scripts.proofs.side_by.Tie as tie
 
