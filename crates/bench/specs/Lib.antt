@@ -5,3 +5,4 @@ pub mod Ranges
 pub mod Readings
 pub mod Sound
 pub mod Laws
+pub mod Wholes

@@ -1,7 +1,8 @@
--- Readings. Document 01, 'Readings', and the air data feed's refusals 5 and 6.
+-- Readings. Document 01, 'Readings', and the air data feed's refusals 5 and 6; document 02, 2026-01.
 use mathlib.Core.Bool.{cond}
 use Prim.Native.Nat.{ℕ}
-use lib.IntN.{ℤ, pos}
+use lib.Dec.{eqb}
+use lib.IntN.{ℤ, pos, negsuc}
 use lib.Ieee.{Float}
 use Rattle.rounding.specs.declared.Whole.{Whole}
 use Rattle.rounding.specs.Whole.{wholeOf}
@@ -18,9 +19,28 @@ floatOf (Reading.Roll x) = x
 floatOf (Reading.Pitch x) = x
 floatOf (Reading.Heading x) = x
 
--- the whole value of a reading, which is compared with the range and loaded by entry; a kind's own rule would stand here
+-- z, and y in the place of n
+abbrev pub exchanged : ℕ → ℤ → ℤ → ℤ
+exchanged n y (pos k) = cond (eqb k n) y (pos k)
+exchanged n y (negsuc k) = negsuc k
+
+-- what a kind makes of the nearest integer: heading 360 is 0 and roll 180 is -180, and any other number of any kind is itself (document 02, 2026-01)
+abbrev pub wrapped : Reading → ℤ → ℤ
+wrapped (Reading.Altitude x) z = z
+wrapped (Reading.Airspeed x) z = z
+wrapped (Reading.VerticalSpeed x) z = z
+wrapped (Reading.Roll x) z = exchanged 180 (negsuc 179) z
+wrapped (Reading.Pitch x) z = z
+wrapped (Reading.Heading x) z = exchanged 360 (pos 0) z
+
+abbrev pub ofKind : Reading → Whole → Whole
+ofKind r Whole.NotFinite = Whole.NotFinite
+ofKind r Whole.Beyond = Whole.Beyond
+ofKind r (Whole.Value z) = Whole.Value (wrapped r z)
+
+-- the whole value of a reading, which is compared with the range and loaded by entry: the integer nearest to its float, as its kind has it
 unfoldable pub wholeReading : Reading → Whole
-wholeReading r = wholeOf (floatOf r)
+wholeReading r = ofKind r (wholeOf (floatOf r))
 
 -- 5 where the float is not finite, 6 where its whole value lies outside the range, else 0: no refusal
 abbrev pub judged : Range → Whole → ℕ

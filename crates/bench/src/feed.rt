@@ -4,7 +4,7 @@ use crate::ranges::Range;
 use crate::ranges::is_within;
 use rounding::Whole;
 ghost use mathlib.Core.Path.{_≡_};
-ghost use Rattle.bench.specs.Readings.{floatOf, wholeReading, judged, wholeNumber};
+ghost use Rattle.bench.specs.Readings.{floatOf, wrapped, wholeReading, judged, wholeNumber};
 
 fn float_of(r: Reading) -> f64
     ensures { λ res. ⌜ res ≡ floatOf r ⌝ }
@@ -19,11 +19,36 @@ fn float_of(r: Reading) -> f64
     }
 }
 
+// What a kind makes of the nearest integer: north is heading 0, and inverted is roll -180.
+fn wrap(r: Reading, v: i32) -> i32
+    ensures { λ res. ⌜ res ≡ wrapped r v ⌝ }
+{
+    match r {
+        Reading::Heading(_) => match v {
+            360 => 0,
+            _ => v,
+        },
+        Reading::Roll(_) => match v {
+            180 => -180,
+            _ => v,
+        },
+        Reading::Altitude(_) => v,
+        Reading::Airspeed(_) => v,
+        Reading::VerticalSpeed(_) => v,
+        Reading::Pitch(_) => v,
+    }
+}
+
 // The whole value of a reading: the one place for it, for judging and for entry.
 pub fn whole_reading(r: Reading) -> Whole
     ensures { λ res. ⌜ res ≡ wholeReading r ⌝ }
 {
-    rounding::whole_value(float_of(r))
+    let nearest = rounding::whole_value(float_of(r));
+    match nearest {
+        Whole::NotFinite => Whole::NotFinite,
+        Whole::Beyond => Whole::Beyond,
+        Whole::Value(v) => Whole::Value(wrap(r, v)),
+    }
 }
 
 // The refusal of a whole value with a range: 5 where there is none, 6 where it is out of range, else 0.

@@ -5,6 +5,7 @@ use Rattle.rotation.proofs.Laws.{rotation-laws}
 use Rattle.rotation.proofs.Sheet.{sheet-knobs}
 use Rattle.modes.proofs.Laws.{mode-laws}
 use Rattle.bench.proofs.Replaced.{part-laws}
+use Rattle.bench.proofs.Wholes.{reading-laws, reading-examples}
 use Rattle.soundness.proofs.Kept.{keeps-sound, laws-in-range}
 use Rattle.soundness.proofs.Lowest.{names}
 use Rattle.claim.proofs.Claimed.{claims}
@@ -33,6 +34,8 @@ promises = record {
   names-lowest = names;
   mode-laws = mode-laws;
   part-laws = part-laws;
+  reading-laws = reading-laws;
+  reading-examples = reading-examples;
   whole-laws = whole-laws;
   whole-sheet = sheet-whole;
   whole-edges = edges;

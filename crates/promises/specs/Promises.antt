@@ -13,6 +13,7 @@ use Rattle.modes.specs.Laws.{ModeLaws}
 use Rattle.bench.specs.declared.Bench.{Bench}
 use Rattle.bench.specs.Holds.{powerOn}
 use Rattle.bench.specs.Laws.{PartLaws}
+use Rattle.bench.specs.Wholes.{ReadingLaws, ReadingExamples}
 use Rattle.bench.specs.Sound.{sound}
 use Rattle.calls.specs.Calls.{Call}
 use Rattle.soundness.specs.Kept.{KeepsSound, LawsInRange}
@@ -48,6 +49,9 @@ pub record Promises : Type 2 where
   -- 107 coherent sets, changes that keep coherence, events and their numbers
   pub mode-laws : ModeLaws
   pub part-laws : PartLaws
+  -- a reading's whole value is its nearest integer, but for heading 360 and roll 180, and is what it is accepted by
+  pub reading-laws : ReadingLaws
+  pub reading-examples : ReadingExamples
   -- the leaves
   pub whole-laws : WholeLaws
   pub whole-sheet : SheetWhole

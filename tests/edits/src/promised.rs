@@ -28,6 +28,8 @@ const FIELDS: &[&str] = &[
     "names-lowest : (w : ℕ) → NamesLowest w",
     "mode-laws : ModeLaws",
     "part-laws : PartLaws",
+    "reading-laws : ReadingLaws",
+    "reading-examples : ReadingExamples",
     "whole-laws : WholeLaws",
     "whole-sheet : SheetWhole",
     "whole-edges : Edges",
