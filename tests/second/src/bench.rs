@@ -49,12 +49,23 @@ impl Kind {
     /// The whole value of a float as a reading of this kind, or what the air
     /// data feed is refused with.
     pub fn whole(self, bits: u64) -> Result<i32, Refusal> {
-        let whole = float::whole(bits).ok_or(Refusal::NotFinite)?;
+        let nearest = float::whole(bits).ok_or(Refusal::NotFinite)?;
+        let whole = self.folded(nearest);
         let (low, high) = self.range();
         if whole < low || whole > high {
             return Err(Refusal::OutOfRange);
         }
         Ok(whole as i32)
+    }
+
+    /// North and inverted flight have two numbers each, of which one is in
+    /// range. Nothing else wraps around.
+    fn folded(self, nearest: i128) -> i128 {
+        match (self, nearest) {
+            (Kind::Heading, 360) => 0,
+            (Kind::Roll, 180) => -180,
+            _ => nearest,
+        }
     }
 }
 

@@ -1,5 +1,6 @@
 //! Tests over whole calls and whole scripts.
 
+mod circles;
 mod refusals;
 mod rules;
 mod scripts;

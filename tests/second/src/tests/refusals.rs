@@ -10,7 +10,7 @@ const INFINITE: u64 = 0x7ff0_0000_0000_0000;
 
 /// Every call is refused with 1, also where another refusal would follow, and
 /// changes nothing.
-fn assert_unsound(bench: Bench) {
+pub fn assert_unsound(bench: Bench) {
     let mut kept = bench;
     let unsound = Refusal::Unsound;
     assert!(!bench.is_sound());
@@ -159,15 +159,17 @@ fn refusal_5_not_finite() {
     assert_eq!(bench, Bench::power_on());
 }
 
+/// Roll and heading end one above their range, at the second number of its
+/// low end.
 #[test]
 fn refusal_6_ranges_of_readings() {
     let ranges = [
         (Kind::Altitude, -8_000, 56_000),
         (Kind::Airspeed, 0, 600),
         (Kind::VerticalSpeed, -300, 300),
-        (Kind::Roll, -180, 179),
+        (Kind::Roll, -180, 180),
         (Kind::Pitch, -90, 89),
-        (Kind::Heading, 0, 359),
+        (Kind::Heading, 0, 360),
     ];
     for (kind, low, high) in ranges {
         for value in low - 2..=high + 2 {
@@ -187,14 +189,19 @@ fn refusal_6_ranges_of_readings() {
 #[test]
 fn refusal_6_is_judged_on_the_whole_value() {
     let cases = [
-        (Kind::Roll, 179.5, false),
+        (Kind::Roll, 180.5, true),
+        (Kind::Roll, 180.75, false),
         (Kind::Roll, -180.5, true),
+        (Kind::Roll, -180.75, false),
         (Kind::Pitch, 89.5, false),
         (Kind::Pitch, -90.5, true),
         (Kind::Airspeed, -0.5, true),
         (Kind::Airspeed, 600.5, true),
         (Kind::Airspeed, 600.75, false),
         (Kind::Heading, -0.0, true),
+        (Kind::Heading, -0.75, false),
+        (Kind::Heading, 360.5, true),
+        (Kind::Heading, 360.75, false),
         (Kind::Heading, 1e300, false),
     ];
     for (kind, value, accepted) in cases {

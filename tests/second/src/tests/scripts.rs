@@ -12,10 +12,10 @@ fn answers(script: &[u8]) -> String {
 #[test]
 fn one_answer_line_for_each_command() {
     let script = b"# a comment\n\nevent 16384\nturn 3 9 # heading\nreading roll -12.5\n\
-        reading roll inf\nreading heading 360\nsend 0\nrefresh 1\ndisplay 1\n\
+        reading roll inf\nreading heading 361\nreading heading 360\nsend 0\nrefresh 1\ndisplay 1\n\
         display 2\npick 0\npick 7\nevent 1048576\nevent 0\nturn 4 1\npanel\npower-on\npick 0\n";
-    let expected = "event 0 14\nturn 0\nreading 0\nreading 5\nreading 6\nsend 0\nrefresh 0\n\
-        display 0 0 2 1 4 9 0 0 0 90 0 0 129\ndisplay 2 0 0 0 0 0 0 0 0 0 0 0 0\n\
+    let expected = "event 0 14\nturn 0\nreading 0\nreading 5\nreading 6\nreading 0\nsend 0\n\
+        refresh 0\ndisplay 0 0 2 1 4 9 0 0 0 90 0 0 129\ndisplay 2 0 0 0 0 0 0 0 0 0 0 0 0\n\
         pick 0 2 1\npick 2 0 0\nevent 4 32\nevent 0 32\nturn 3\npanel\nend\npower-on 0\n\
         pick 0 0 0\n";
     assert_eq!(answers(script), expected);
@@ -165,7 +165,8 @@ fn a_drawing_follows_what_is_watched_and_nothing_else() {
         ("knob wheel 1", "turn 0"),
         ("reading roll 1", "reading 0"),
         ("reading roll nan", "reading 5"),
-        ("reading roll 180", "reading 6"),
+        ("reading roll 180", "reading 0"),
+        ("reading roll 181", "reading 6"),
         ("send left", "send 0"),
         ("send 2", "send 2"),
         ("refresh right", "refresh 0"),

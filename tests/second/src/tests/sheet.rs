@@ -16,11 +16,10 @@ fn case_1_whole_values() {
 fn case_2_heading_readings() {
     let mut bench = Bench::power_on();
     assert_eq!(read(&mut bench, Kind::Heading, 359.25), Ok(()));
-    assert_eq!(
-        read(&mut bench, Kind::Heading, 359.5),
-        Err(Refusal::OutOfRange)
-    );
     assert_eq!(bench.reading(Kind::Heading), 359.25_f64.to_bits());
+    assert_eq!(read(&mut bench, Kind::Heading, 359.5), Ok(()));
+    assert_eq!(bench.reading(Kind::Heading), 359.5_f64.to_bits());
+    assert_eq!(Kind::Heading.whole(bench.reading(Kind::Heading)), Ok(0));
 }
 
 #[test]

@@ -41,7 +41,7 @@ fn event(bench: &mut Bench, promises: &mut Promises, draw: &mut Draw) -> Option<
 
 fn reading(bench: &mut Bench, draw: &mut Draw) -> Option<Refusal> {
     let kind = Kind::ALL[draw.below(6) as usize];
-    let value = f64::from(draw.below(1_000)) - 400.0;
+    let value = f64::from(draw.below(1_200)) - 400.0;
     calls::reading(bench, kind, (value / 2.0).to_bits()).err()
 }
 
