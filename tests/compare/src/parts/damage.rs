@@ -145,10 +145,12 @@ fn of_readings() -> Vec<String> {
 }
 
 /// Two damages at once, and a damage that a second one undoes.
-const TWICE: [&str; 6] = [
+const TWICE: [&str; 8] = [
     "pf 2 and reading roll nan",
     "left set 1 0 7 0 and right ias 401",
-    "reading altitude inf and reading heading 360",
+    "reading altitude inf and reading heading 361",
+    "reading heading 361 and reading heading 360",
+    "reading roll 181 and reading roll 180",
     "pf 7 and pf 1",
     "right-inbox set 5 2 8 0 and right-inbox set 5 2 8 1",
     "left-inbox pitch 21 and left-inbox pitch 20",
@@ -162,8 +164,9 @@ mod tests {
     #[test]
     fn the_number_of_damages_is_that_of_the_choices() {
         let boxes = 4 * (7 * 11 + 241);
-        let readings = 6 * (2 * 7 * 3 + 5 + 3 + 4);
-        assert_eq!(damages().len(), 8 + boxes + readings + 6);
+        // Two kinds go on for one more unit at their high end.
+        let readings = 6 * (2 * 7 * 3 + 5 + 3 + 4) + 2 * 2 * 3;
+        assert_eq!(damages().len(), 8 + boxes + readings + TWICE.len());
         let lines = CALLS.len() + 2;
         for start in STARTS {
             let expected = damages().len() * (start.len() + 1 + lines) + TWICE.len();
@@ -209,6 +212,20 @@ mod tests {
         }
         for value in ["altitude 0x40eb581000000000", "altitude 0x40eb581000000001"] {
             assert!(all.contains(&format!("reading {value}")), "{value}");
+        }
+    }
+
+    #[test]
+    fn circles_are_damaged_at_their_second_number() {
+        let all = of_readings();
+        for (kind, values) in [
+            ("heading", [-0.5, 359.5, 360.0, 360.5, 361.0]),
+            ("roll", [-180.5, 179.5, 180.0, 180.5, 181.0]),
+        ] {
+            for value in values.into_iter().flat_map(words::patterns_at) {
+                let damage = format!("reading {kind} {value}");
+                assert!(all.contains(&damage), "{damage}");
+            }
         }
     }
 

@@ -300,7 +300,7 @@ fn damaged() -> Vec<State> {
     for kind in KINDS {
         damages.extend([
             format!("reading {} nan", kind.name),
-            format!("reading {} {}", kind.name, kind.high + 1),
+            format!("reading {} {}", kind.name, kind.last + 1),
         ]);
     }
     let mut states = Vec::new();
@@ -515,6 +515,15 @@ mod tests {
             "damage",
         ];
         assert_eq!(last, BTreeSet::from(watched));
+    }
+
+    #[test]
+    fn readings_are_damaged_past_the_last_number_accepted() {
+        let all = damaged().concat();
+        for reading in ["altitude 56001", "pitch 90", "roll 181", "heading 361"] {
+            let line = format!("damage reading {reading}");
+            assert!(all.contains(&line), "{line}");
+        }
     }
 
     #[test]

@@ -1,7 +1,7 @@
-//! Readings: at the ends of the ranges, at ties, floats of every class, and decimal numbers, whose
-//! nearest floats have to be found.
+//! Readings: at the ends of the ranges, where circles come round, at ties, floats of every class,
+//! and decimal numbers, whose nearest floats have to be found.
 
-use super::words::{self, pattern, patterns_at, Ranged, KINDS};
+use super::words::{self, pattern, patterns_at, Ranged, KINDS, SEAMS};
 use crate::gate::{Gate, Stop};
 use crate::rng::Rng;
 use crate::say;
@@ -29,6 +29,9 @@ fn of_kind(kind: Ranged, rng: &mut Rng) -> Script {
     for value in edge_values(kind) {
         say_reading(&mut script, kind.name, &value);
         say_stored(&mut script, kind.name, &value);
+    }
+    for value in values_at_seams() {
+        say_seam(&mut script, kind, &value);
     }
     for value in halves(kind) {
         say_half(&mut script, kind, &value);
@@ -65,6 +68,21 @@ fn say_stored(script: &mut Script, kind: &str, value: &str) {
 fn say_half(script: &mut Script, kind: Ranged, value: &str) {
     script.line("power-on");
     say!(script, "reading {} {value}", kind.name);
+    say_entry(script, kind);
+}
+
+/// The same float given to the bench and put into it, each with what the bench keeps and loads.
+fn say_seam(script: &mut Script, kind: Ranged, value: &str) {
+    for command in ["reading", "damage reading"] {
+        script.line("power-on");
+        say!(script, "{command} {} {value}", kind.name);
+        script.line("bench");
+        say_entry(script, kind);
+    }
+}
+
+/// Entry to the mode that loads a kind; for heading, which none loads, any call.
+fn say_entry(script: &mut Script, kind: Ranged) {
     let event = match kind.name {
         "altitude" => 19,
         "airspeed" => 18,
@@ -77,10 +95,12 @@ fn say_half(script: &mut Script, kind: Ranged, value: &str) {
 
 fn edge_values(kind: Ranged) -> Vec<String> {
     let mut values = words::values_at_ends(kind);
-    for end in [kind.low, kind.high] {
-        values.extend([-1, 0, 1].map(|step| (end + step).to_string()));
-        values.extend([-1, 0].map(|step| half_above(end + step)));
-    }
+    let low_end = kind.low - 1..=kind.low;
+    let high_end = kind.high - 1..=kind.last;
+    values.extend(low_end.chain(high_end).map(half_above));
+    let low_end = kind.low - 1..=kind.low + 1;
+    let high_end = kind.high - 1..=kind.last + 1;
+    values.extend(low_end.chain(high_end).map(|whole| whole.to_string()));
     values.extend(small_values());
     values.extend(large_values());
     values.extend(NO_NUMBERS.map(String::from));
@@ -97,9 +117,28 @@ fn half_above(whole: i32) -> String {
     }
 }
 
+/// Quarter units from one unit below each seam to one and a half above it, the floats beside their
+/// ties, and all these with a minus sign.
+fn values_at_seams() -> Vec<String> {
+    let mut values = Vec::new();
+    for seam in SEAMS {
+        for quarters in -4..=6_i32 {
+            let value = f64::from(seam) + f64::from(quarters) / 4.0;
+            for value in [value, -value] {
+                if quarters.rem_euclid(4) == 2 {
+                    values.extend(patterns_at(value));
+                } else {
+                    values.push(value.to_string());
+                }
+            }
+        }
+    }
+    values
+}
+
 /// Every half unit from just below the range to just above it, or about the ends if it is wide.
 fn halves(kind: Ranged) -> Vec<String> {
-    let wholes = kind.low - 2..=kind.high + 2;
+    let wholes = kind.low - 2..=kind.last + 2;
     let near_end =
         |whole: &i32| whole - kind.low < 60 || kind.high - whole < 60 || whole.abs() < 60;
     let wide = kind.high - kind.low > 1_000;
@@ -189,7 +228,7 @@ const DECIMALS: [&str; 24] = [
 
 /// A number around a range, with all the digits that a script may have.
 fn decimal_near(kind: Ranged, rng: &mut Rng) -> String {
-    let whole = rng.between(i64::from(kind.low) - 2, i64::from(kind.high) + 2);
+    let whole = rng.between(i64::from(kind.low) - 2, i64::from(kind.last) + 2);
     let whole = match whole {
         0 => rng.pick(&["0", "-0"]).to_string(),
         _ => whole.to_string(),
@@ -269,10 +308,10 @@ mod tests {
     #[test]
     fn every_half_unit_of_a_narrow_range_is_read() {
         let of_roll = halves(KINDS[3]);
-        assert_eq!(of_roll.len(), 364);
+        assert_eq!(of_roll.len(), 365);
         assert_eq!(
-            (of_roll[0].as_str(), of_roll[363].as_str()),
-            ("-181.5", "181.5")
+            (of_roll[0].as_str(), of_roll[364].as_str()),
+            ("-181.5", "182.5")
         );
         let of_altitude = halves(KINDS[0]);
         for value in ["-8000.5", "-0.5", "0.5", "55999.5", "56000.5"] {
@@ -300,10 +339,46 @@ mod tests {
             ] {
                 assert!(values.contains(&value.to_string()), "{value}");
             }
-            assert!(values.contains(&kind.low.to_string()));
-            assert!(values.contains(&(kind.high + 1).to_string()));
-            assert!(values.contains(&half_above(kind.high)));
-            assert!(values.contains(&half_above(kind.low - 1)));
+            for whole in [kind.low, kind.high, kind.last, kind.last + 1] {
+                assert!(values.contains(&whole.to_string()), "{whole}");
+            }
+            for whole in [kind.low - 1, kind.high, kind.last] {
+                assert!(values.contains(&half_above(whole)), "{whole}");
+            }
+        }
+    }
+
+    #[test]
+    fn seams_come_with_quarters_ties_and_what_is_beside_them() {
+        let values = values_at_seams();
+        assert_eq!(values.len(), 2 * 2 * (8 + 3 * 3));
+        for value in [
+            "179", "179.25", "179.75", "180", "180.25", "180.75", "181", "181.25", "359", "359.25",
+            "359.75", "360", "360.25", "360.75", "361",
+        ] {
+            assert!(values.contains(&value.to_string()), "{value}");
+            assert!(values.contains(&format!("-{value}")), "-{value}");
+        }
+        for tie in [179.5, 180.5, 181.5, 359.5, 360.5, 361.5] {
+            for value in patterns_at(tie).into_iter().chain(patterns_at(-tie)) {
+                assert!(values.contains(&value), "{tie}");
+            }
+        }
+    }
+
+    #[test]
+    fn every_kind_is_given_and_damaged_with_the_values_at_seams() {
+        let events = [524288, 262144, 131072, 64, 64, 64];
+        for (kind, event) in KINDS.into_iter().zip(events) {
+            let all = text(&of_kind(kind, &mut rng()));
+            for value in values_at_seams() {
+                let told = format!(
+                    "reading {} {value}\nbench\nevent {event}\ndisplay 0",
+                    kind.name
+                );
+                let both = format!("power-on\n{told}\npower-on\ndamage {told}\n");
+                assert!(all.contains(&both), "{} {value}", kind.name);
+            }
         }
     }
 
@@ -311,7 +386,9 @@ mod tests {
     fn the_number_of_commands_is_that_of_the_values() {
         for kind in KINDS {
             let edges = edge_values(kind).len();
-            let expected = 13 * edges + 4 * halves(kind).len() + 8 * READ_DECIMALS;
+            let seams = values_at_seams().len();
+            let others = 4 * halves(kind).len() + 8 * READ_DECIMALS;
+            let expected = 13 * edges + 10 * seams + others;
             assert_eq!(of_kind(kind, &mut rng()).commands(), expected);
         }
         assert_eq!(stored_decimals(&mut rng()).commands(), 12_000 / 6 * 7);

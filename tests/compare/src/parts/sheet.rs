@@ -1,5 +1,6 @@
-//! The bench sheet of document 01: each case as a script from power-on, with the answers that the
-//! paper gives. A display also has what the paper says of power-on, references and lamps.
+//! The bench sheet of document 01 as request 2026-01 left it: each case as a script from power-on,
+//! with the answers that the paper gives. A display also has what the paper says of power-on,
+//! references and lamps.
 
 use crate::gate::{Gate, Stop};
 use crate::script::Script;
@@ -57,14 +58,16 @@ const CASE_1: Case = &[
     ("display 0", "display 0 1 1 4 0 0 0 0 14 90 0 0 160"),
 ];
 
-/// The refused heading leaves 359.25 in the bench.
+/// North by its second number is accepted; the refused headings leave it in the bench as it came.
 const CASE_2: Case = &[
     ("reading heading 359.25", "reading 0"),
-    ("reading heading 359.5", "reading 6"),
+    ("reading heading 359.5", "reading 0"),
+    ("reading heading 360.75", "reading 6"),
+    ("reading heading -0.75", "reading 6"),
     (
         "bench",
         "bench 0 0 0 0 0 0 0 0x0000000000000000 0x4056800000000000 0x0000000000000000 \
-         0x0000000000000000 0x0000000000000000 0x4076740000000000 \
+         0x0000000000000000 0x0000000000000000 0x4076780000000000 \
          0 0 0 0 0 0 0 0 0 90 0 0 0 0 0 0 0 0 0 0 0 90 0 0 \
          0 0 0 0 0 0 0 0 0 90 0 0 0 0 0 0 0 0 0 0 0 90 0 0",
     ),
@@ -218,6 +221,7 @@ mod tests {
             assert!(given.contains(&format!("event {word}").as_str()), "{word}");
         }
         for reading in [
+            "heading 359.25",
             "heading 359.5",
             "altitude 56000.5",
             "altitude 56001",

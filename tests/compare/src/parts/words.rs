@@ -8,20 +8,37 @@ pub struct Ranged {
     pub name: &'static str,
     pub low: i32,
     pub high: i32,
+    /// The highest number that is accepted: the high end, or one above it in a circle.
+    pub last: i32,
 }
 
 const fn ranged(name: &'static str, low: i32, high: i32) -> Ranged {
-    Ranged { name, low, high }
+    Ranged {
+        name,
+        low,
+        high,
+        last: high,
+    }
+}
+
+/// A kind whose low end has a second number, one above the high end.
+const fn circle(name: &'static str, low: i32, high: i32) -> Ranged {
+    let last = high + 1;
+    let row = ranged(name, low, high);
+    Ranged { last, ..row }
 }
 
 pub const KINDS: [Ranged; 6] = [
     ranged("altitude", -8_000, 56_000),
     ranged("airspeed", 0, 600),
     ranged("vertical-speed", -300, 300),
-    ranged("roll", -180, 179),
+    circle("roll", -180, 179),
     ranged("pitch", -90, 89),
-    ranged("heading", 0, 359),
+    circle("heading", 0, 359),
 ];
+
+/// The second numbers of roll's and heading's low ends.
+pub const SEAMS: [i32; 2] = [KINDS[3].last, KINDS[5].last];
 
 pub const REFERENCES: [Ranged; 7] = [
     ranged("heading", 0, 359),
@@ -134,16 +151,15 @@ pub fn patterns_at(value: f64) -> [String; 3] {
     [value.next_down(), value, value.next_up()].map(pattern)
 }
 
-/// The ends of a range, a half and a whole unit beside them, and the next float on each side of
-/// all these. Whatever the rule for ties, the last accepted and the first refused are among them.
+/// The ends of a range and the last number accepted, half units up to one and a half beside them,
+/// and the next float on each side of all these. Whatever the rule for ties, the last accepted and
+/// the first refused are among them.
 pub fn values_at_ends(range: Ranged) -> Vec<String> {
-    let mut values = Vec::new();
-    for end in [range.low, range.high] {
-        for halves in -3..=3 {
-            values.extend(patterns_at(f64::from(end) + f64::from(halves) / 2.0));
-        }
-    }
-    values
+    let low = 2 * range.low - 3..=2 * range.low + 3;
+    let high = 2 * range.high - 3..=2 * range.last + 3;
+    low.chain(high)
+        .flat_map(|halves| patterns_at(f64::from(halves) / 2.0))
+        .collect()
 }
 
 #[cfg(test)]
@@ -180,11 +196,39 @@ mod tests {
 
     #[test]
     fn the_ends_of_a_range_come_with_their_ties() {
-        let values = values_at_ends(KINDS[5]);
-        assert_eq!(values.len(), 2 * 7 * 3);
-        for value in [-0.5, 0.0, 1.0, 358.5, 359.0, 359.5, 360.0] {
+        let values = values_at_ends(KINDS[4]);
+        assert_eq!(values.len(), (7 + 7) * 3);
+        for value in [-91.5, -90.5, -90.0, 89.0, 89.5, 90.5] {
             assert!(values.contains(&pattern(value)), "{value}");
         }
-        assert!(values.contains(&pattern(359.5_f64.next_down())));
+        assert!(values.contains(&pattern(89.5_f64.next_down())));
+    }
+
+    #[test]
+    fn a_circle_comes_with_the_ties_of_its_second_number() {
+        let circles = [
+            (KINDS[3], [-180.5, 179.5, 180.5, 181.5]),
+            (KINDS[5], [-0.5, 359.5, 360.5, 361.5]),
+        ];
+        for (kind, ties) in circles {
+            let values = values_at_ends(kind);
+            assert_eq!(values.len(), (7 + 9) * 3);
+            for tie in ties {
+                for value in patterns_at(tie) {
+                    assert!(values.contains(&value), "{} {tie}", kind.name);
+                }
+            }
+        }
+    }
+
+    #[test]
+    fn only_roll_and_heading_readings_are_circles() {
+        assert_eq!(SEAMS, [180, 360]);
+        let circles = KINDS.iter().chain(&REFERENCES);
+        let circles: Vec<(&str, i32)> = circles
+            .filter(|row| row.last != row.high)
+            .map(|row| (row.name, row.last))
+            .collect();
+        assert_eq!(circles, [("roll", 180), ("heading", 360)]);
     }
 }

@@ -12,7 +12,7 @@ const OTHERS: [&str; 33] = [
     "event 4294967295",
     "turn 4 0",
     "turn 4294967295 255",
-    "reading roll 180",
+    "reading roll 181",
     "reading altitude nan",
     "send 2",
     "refresh 4294967295",

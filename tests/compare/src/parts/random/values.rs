@@ -1,19 +1,24 @@
 //! Values of readings by chance.
 
-use crate::parts::words::{pattern, Ranged};
+use crate::parts::words::{pattern, Ranged, SEAMS};
 use crate::rng::Rng;
 
-/// Mostly in the range of a kind or close to it.
+/// Mostly in the range of a kind or close to it; now and then where a circle comes round, whatever
+/// the kind.
 pub fn value(kind: Ranged, rng: &mut Rng) -> String {
-    let (low, high) = (i64::from(kind.low), i64::from(kind.high));
+    let (low, last) = (i64::from(kind.low), i64::from(kind.last));
     match rng.below(100) {
-        0..=39 => decimal(rng.between(low, high), rng),
-        40..=64 => decimal(rng.between(-60, 60).clamp(low, high), rng),
+        0..=39 => decimal(rng.between(low, last), rng),
+        40..=64 => decimal(rng.between(-60, 60).clamp(low, last), rng),
         65..=79 => {
-            let end = rng.pick(&[low, high]);
+            let end = rng.pick(&[low, last]);
             decimal(end + rng.between(-2, 2), rng)
         }
-        80..=91 => beside_a_quarter(low, high, rng),
+        80..=88 => beside_a_quarter(low, last, rng),
+        89..=91 => {
+            let seam = i64::from(rng.pick(&SEAMS)) * rng.pick(&[1, -1]);
+            beside_a_quarter(seam, seam, rng)
+        }
         92..=95 => rng.pick(&SPECIAL).to_string(),
         96..=97 => decimal(rng.between(-100_000, 100_000), rng),
         _ => pattern(f64::from_bits(rng.next())),
@@ -39,7 +44,7 @@ fn decimal(whole: i64, rng: &mut Rng) -> String {
     }
 }
 
-/// The pattern of a quarter unit in the range, or of a float next to it.
+/// The pattern of a quarter unit in the range or close to it, or of a float next to it.
 fn beside_a_quarter(low: i64, high: i64, rng: &mut Rng) -> String {
     let quarters = rng.between(4 * low - 8, 4 * high + 8);
     let value = quarters as f64 / 4.0;
@@ -68,7 +73,8 @@ const SPECIAL: [&str; 12] = [
 #[cfg(test)]
 mod tests {
     use super::*;
-    use crate::parts::words::KINDS;
+    use crate::parts::words::{patterns_at, KINDS};
+    use std::collections::BTreeSet;
 
     #[test]
     fn most_values_are_in_range_and_some_are_not() {
@@ -77,7 +83,7 @@ mod tests {
             let values: Vec<String> = (0..2_000).map(|_| value(kind, &mut rng)).collect();
             let good = values.iter().filter(|value| {
                 let whole = value.parse::<f64>().map(f64::round_ties_even);
-                let range = f64::from(kind.low)..=f64::from(kind.high);
+                let range = f64::from(kind.low)..=f64::from(kind.last);
                 whole.is_ok_and(|whole| range.contains(&whole))
             });
             let good = good.count();
@@ -86,6 +92,19 @@ mod tests {
             assert!(values.contains(&"nan".to_string()));
             let halves = values.iter().filter(|value| value.ends_with(".5")).count();
             assert!(halves > 300, "{halves}");
+        }
+    }
+
+    #[test]
+    fn every_kind_has_the_ties_at_seams_of_both_signs() {
+        let mut rng = Rng::of_list(1, 0);
+        for kind in KINDS {
+            let values: BTreeSet<String> = (0..50_000).map(|_| value(kind, &mut rng)).collect();
+            for tie in [179.5, 180.5, 359.5, 360.5] {
+                for value in patterns_at(tie).into_iter().chain(patterns_at(-tie)) {
+                    assert!(values.contains(&value), "{} {tie} {value}", kind.name);
+                }
+            }
         }
     }
 }
