@@ -33,6 +33,7 @@ wrapped (Reading.Roll x) z = exchanged 180 (negsuc 179) z
 wrapped (Reading.Pitch x) z = z
 wrapped (Reading.Heading x) z = exchanged 360 (pos 0) z
 
+-- the same of what rounding answers, which may be no number
 abbrev pub ofKind : Reading → Whole → Whole
 ofKind r Whole.NotFinite = Whole.NotFinite
 ofKind r Whole.Beyond = Whole.Beyond
