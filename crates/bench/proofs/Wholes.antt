@@ -1,16 +1,15 @@
 -- The laws of specs/Wholes.antt: from the laws of rounding, and by what is exchanged and what is not. Assumes nothing.
-use mathlib.Core.Path.{_≡_, refl, sym, ap, _∙_}
+use mathlib.Core.Path.{_≡_, refl, ap, _∙_}
 use mathlib.Core.Bool.{Bool, true, false, cond}
 use Prim.Native.Nat.{ℕ}
 use native.Mathlib.Omega.{arith}
 use borrow.Author.Tests.{ne-eqb}
 use lib.IntN.{ℤ, pos, negsuc}
-use lib.Ieee.{Float, fin, ofBits}
+use lib.Ieee.{Float, ofBits}
 use Rattle.rounding.specs.declared.Whole.{Whole}
 use Rattle.rounding.specs.Whole.{magnitudeOf, signedOf, isI32, inAnswer, wholeOf}
 use Rattle.rounding.proofs.Laws.{magnitude-nearest, magnitude-only}
 use Rattle.bench.specs.declared.Reading.{Reading}
-use Rattle.bench.specs.declared.ranges.Range.{Range}
 use Rattle.bench.specs.Ranges.{within, readingRange, referenceRange}
 use Rattle.bench.specs.Readings.{floatOf, exchanged, wrapped, ofKind, wholeReading, judged, refusalOf, wholeNumber}
 use Rattle.bench.specs.Wholes.{Nearest, WholeInRange, ReadingLaws, ReadingExamples}

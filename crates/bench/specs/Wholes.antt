@@ -3,7 +3,7 @@
 use mathlib.Core.Path.{_≡_}
 use mathlib.Core.Logic.{_↔_}
 use mathlib.Core.Bool.{Bool, true}
-use mathlib.Core.List.{List, [], _∷_, map}
+use mathlib.Core.List.{[], _∷_, map}
 use Prim.Native.Nat.{ℕ, _*_}
 use lib.IntN.{ℤ, pos, negsuc}
 use lib.Ieee.{Float, fin, up, down, binary64, ofBits}
@@ -52,15 +52,12 @@ pub record ReadingLaws : Type 0 where
 
 -- ---- the numbers around the two, by computing; each float is read from its 64 bits, and the comments give it in decimal
 
-abbrev pub heading : ℕ → Reading
-heading n = Reading.Heading (ofBits binary64 n)
-
-abbrev pub roll : ℕ → Reading
-roll n = Reading.Roll (ofBits binary64 n)
+abbrev pub readingOf : (Float → Reading) → ℕ → Reading
+readingOf kind n = kind (ofBits binary64 n)
 
 -- a reading's whole value and its refusal
-abbrev pub taken : Reading → Whole × ℕ
-taken r = (wholeReading r, refusalOf r)
+abbrev pub readAs : Reading → Whole × ℕ
+readAs r = (wholeReading r, refusalOf r)
 
 -- what a roll reading leaves in the roll reference when ROLL engages
 abbrev pub loadedRoll : Reading → ℤ
@@ -68,22 +65,22 @@ loadedRoll r = clamped (referenceRange atRoll) (wholeNumber r)
 
 pub record ReadingExamples : Type 0 where
   -- headings 359.5, 360.0, 360.25 and 360.5: accepted as 0
-  pub north : map taken (map heading (0x4076_7800_0000_0000 ∷ 0x4076_8000_0000_0000 ∷ 0x4076_8400_0000_0000 ∷ 0x4076_8800_0000_0000 ∷ []))
+  pub north : map readAs (map (readingOf Reading.Heading) (0x4076_7800_0000_0000 ∷ 0x4076_8000_0000_0000 ∷ 0x4076_8400_0000_0000 ∷ 0x4076_8800_0000_0000 ∷ []))
       ≡ (Whole.Value (pos 0), 0) ∷ (Whole.Value (pos 0), 0) ∷ (Whole.Value (pos 0), 0) ∷ (Whole.Value (pos 0), 0) ∷ []
   -- headings 359.25, 360.75, -0.5 and -0.75: 361 and -1 are refused with 6
-  pub headings : map taken (map heading (0x4076_7400_0000_0000 ∷ 0x4076_8c00_0000_0000 ∷ 0xbfe0_0000_0000_0000 ∷ 0xbfe8_0000_0000_0000 ∷ []))
+  pub headings : map readAs (map (readingOf Reading.Heading) (0x4076_7400_0000_0000 ∷ 0x4076_8c00_0000_0000 ∷ 0xbfe0_0000_0000_0000 ∷ 0xbfe8_0000_0000_0000 ∷ []))
       ≡ (Whole.Value (pos 359), 0) ∷ (Whole.Value (pos 361), 6) ∷ (Whole.Value (pos 0), 0) ∷ (Whole.Value (negsuc 0), 6) ∷ []
   -- rolls 179.5, 180.0, 180.5 and -180.5: accepted as -180
-  pub inverted : map taken (map roll (0x4066_7000_0000_0000 ∷ 0x4066_8000_0000_0000 ∷ 0x4066_9000_0000_0000 ∷ 0xc066_9000_0000_0000 ∷ []))
+  pub inverted : map readAs (map (readingOf Reading.Roll) (0x4066_7000_0000_0000 ∷ 0x4066_8000_0000_0000 ∷ 0x4066_9000_0000_0000 ∷ 0xc066_9000_0000_0000 ∷ []))
       ≡ (Whole.Value (negsuc 179), 0) ∷ (Whole.Value (negsuc 179), 0) ∷ (Whole.Value (negsuc 179), 0) ∷ (Whole.Value (negsuc 179), 0) ∷ []
   -- rolls 179.25, 180.75 and -180.75: 181 and -181 are refused with 6
-  pub rolls : map taken (map roll (0x4066_6800_0000_0000 ∷ 0x4066_9800_0000_0000 ∷ 0xc066_9800_0000_0000 ∷ []))
+  pub rolls : map readAs (map (readingOf Reading.Roll) (0x4066_6800_0000_0000 ∷ 0x4066_9800_0000_0000 ∷ 0xc066_9800_0000_0000 ∷ []))
       ≡ (Whole.Value (pos 179), 0) ∷ (Whole.Value (pos 181), 6) ∷ (Whole.Value (negsuc 180), 6) ∷ []
   -- rolls 179.25, 179.75 and 180.0 load 27, -27 and -27
-  pub loaded : map loadedRoll (map roll (0x4066_6800_0000_0000 ∷ 0x4066_7800_0000_0000 ∷ 0x4066_8000_0000_0000 ∷ [])) ≡ pos 27 ∷ negsuc 26 ∷ negsuc 26 ∷ []
+  pub loaded : map loadedRoll (map (readingOf Reading.Roll) (0x4066_6800_0000_0000 ∷ 0x4066_7800_0000_0000 ∷ 0x4066_8000_0000_0000 ∷ [])) ≡ pos 27 ∷ negsuc 26 ∷ negsuc 26 ∷ []
   -- 360.0 and 180.0 of other kinds, and of each other's, are themselves: an altitude, an airspeed, a vertical speed, a pitch, a roll and a heading
-  pub others : map taken (Reading.Altitude (ofBits binary64 0x4076_8000_0000_0000) ∷ Reading.Airspeed (ofBits binary64 0x4076_8000_0000_0000)
-      ∷ Reading.VerticalSpeed (ofBits binary64 0x4066_8000_0000_0000) ∷ Reading.Pitch (ofBits binary64 0x4066_8000_0000_0000)
-      ∷ roll 0x4076_8000_0000_0000 ∷ heading 0x4066_8000_0000_0000 ∷ [])
+  pub others : map readAs (readingOf Reading.Altitude 0x4076_8000_0000_0000 ∷ readingOf Reading.Airspeed 0x4076_8000_0000_0000
+      ∷ readingOf Reading.VerticalSpeed 0x4066_8000_0000_0000 ∷ readingOf Reading.Pitch 0x4066_8000_0000_0000
+      ∷ readingOf Reading.Roll 0x4076_8000_0000_0000 ∷ readingOf Reading.Heading 0x4066_8000_0000_0000 ∷ [])
       ≡ (Whole.Value (pos 360), 0) ∷ (Whole.Value (pos 360), 0) ∷ (Whole.Value (pos 180), 0) ∷ (Whole.Value (pos 180), 6)
       ∷ (Whole.Value (pos 360), 6) ∷ (Whole.Value (pos 180), 0) ∷ []

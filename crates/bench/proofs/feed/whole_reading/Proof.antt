@@ -23,5 +23,7 @@ whole-reading-spec =
     (tie.spec (λ c κs. search needs) (λ c κs. search needs) (λ c. search needs) (λ c. search needs) (λ c. search needs) (λ c κs. search needs)
     (λ c. rounded (c .before .before) _ (c .enum-told .given .1))
     (λ c. rounded (c .before .before) _ (c .enum-told2 .given .1))
-    (λ c. let at = c .before .before in
-    ap Whole.Value (same32 _ (record { sfits = c .wrap .ok }) ∙ c .wrap .ensures ∙ ap (wrapped (r (at .before .before))) (same32 _ (record { sfits = c .before .known-told .given .0 .1 }))) ∙ rounded (at .before .before) _ (at .nearest .given .1)))
+    (λ c. let at-rounded = c .before .before .before .before in
+    let value = same32 _ (record { sfits = c .before .known-told .given .0 .1 }) in
+    let wrapped-value = same32 _ (record { sfits = c .wrap .ok }) ∙ c .wrap .ensures ∙ ap (wrapped (r at-rounded)) value in
+    ap Whole.Value wrapped-value ∙ rounded at-rounded _ (c .before .before .nearest .given .1)))
