@@ -22,7 +22,7 @@ pub record Accepted (b : Bench) (side start : ℕ) (area : List ℕ) : Type 0 wh
   pub is-side : side ≤ 1
   pub room : start + 19 ≤ length area
 
-accepted-write : (b : Bench) (side start : ℕ) (area : List ℕ) → writeRefusal b side start area ≡ 0 → Accepted b side start area
+pub accepted-write : (b : Bench) (side start : ℕ) (area : List ℕ) → writeRefusal b side start area ≡ 0 → Accepted b side start area
 unfolding writeRefusal
 accepted-write b side start area e = go (sound b) (leb side 1) (fits start area) refl refl refl e
   where
