@@ -15,19 +15,47 @@ use Rattle.modes.proofs.Finite.{both-left, both-right, pick-past}
 use Rattle.modes.proofs.Every.{at-sets}
 use Rattle.codes.specs.declared.Coded.{Coded}
 use Rattle.codes.specs.Codes.{codedSets, sameSet, placeIn, codeOf, setOf}
-use Rattle.codes.specs.Laws.{OneSet, CodeLaws}
+use Rattle.codes.specs.Laws.{OneSet, rank, CodeLaws}
 use Rattle.codes.proofs.Joins.{off-code, count, same-set}
 
 -- the set at the place of a set in a list is that set
-place-back : (xs : List ModeSet) (s : ModeSet) → placeIn xs s < length xs → pick Coded.NoSet (map Coded.Set xs) (placeIn xs s) ≡ Coded.Set s
+place-back : (xs : List ModeSet) (s : ModeSet) → placeIn xs s < length xs → pick ModeSet.Off xs (placeIn xs s) ≡ s
 place-back [] s h = absurd (not-suc-le-zero h)
 place-back (x ∷ xs) s h = go (sameSet s x) refl h (place-back xs s)
   where
-    go : (t : Bool) → sameSet s x ≡ t → cond t 0 (suc (placeIn xs s)) < suc (length xs) →
-        (placeIn xs s < length xs → pick Coded.NoSet (map Coded.Set xs) (placeIn xs s) ≡ Coded.Set s) →
-        pick Coded.NoSet (Coded.Set x ∷ map Coded.Set xs) (cond t 0 (suc (placeIn xs s))) ≡ Coded.Set s
-    go true e h more = ap Coded.Set (sym (same-set s x (subst T (sym e) tt)))
+    go : (t : Bool) → sameSet s x ≡ t → cond t 0 (suc (placeIn xs s)) < suc (length xs) → (placeIn xs s < length xs → pick ModeSet.Off xs (placeIn xs s) ≡ s) →
+        pick ModeSet.Off (x ∷ xs) (cond t 0 (suc (placeIn xs s))) ≡ s
+    go true e h more = sym (same-set s x (subst T (sym e) tt))
     go false e h more = more (le-of-suc-le-suc h)
+
+pick-set : (xs : List ModeSet) (n : ℕ) → n < length xs → pick Coded.NoSet (map Coded.Set xs) n ≡ Coded.Set (pick ModeSet.Off xs n)
+pick-set [] n h = absurd (not-suc-le-zero h)
+pick-set (x ∷ xs) zero h = refl
+pick-set (x ∷ xs) (suc n) h = pick-set xs n (le-of-suc-le-suc h)
+
+-- in a list whose ranks rise from each to the next, they rise from any to any later one
+abbrev rises : List ModeSet → Bool
+rises [] = true
+rises (x ∷ []) = true
+rises (x ∷ (y ∷ ys)) = ltb (rank x) (rank y) && rises (y ∷ ys)
+
+tail-rises : (x : ModeSet) (xs : List ModeSet) → T (rises (x ∷ xs)) → T (rises xs)
+tail-rises x [] t = tt
+tail-rises x (y ∷ ys) t = both-right (ltb (rank x) (rank y)) (rises (y ∷ ys)) t
+
+first-rises : (x : ModeSet) (xs : List ModeSet) (n : ℕ) → T (rises (x ∷ xs)) → n < length xs → rank x < rank (pick ModeSet.Off xs n)
+first-rises x [] n t h = absurd (not-suc-le-zero h)
+first-rises x (y ∷ ys) zero t h = ltb→lt (rank x) (rank y) (both-left (ltb (rank x) (rank y)) (rises (y ∷ ys)) t)
+first-rises x (y ∷ ys) (suc n) t h =
+    let step = ltb→lt (rank x) (rank y) (both-left (ltb (rank x) (rank y)) (rises (y ∷ ys)) t) in
+    let more = first-rises y ys n (tail-rises x (y ∷ ys) t) (le-of-suc-le-suc h) in
+    omega arith
+
+later-rises : (xs : List ModeSet) (m n : ℕ) → T (rises xs) → m < n → n < length xs → rank (pick ModeSet.Off xs m) < rank (pick ModeSet.Off xs n)
+later-rises [] m n t l h = absurd (not-suc-le-zero h)
+later-rises (x ∷ xs) m zero t l h = absurd (not-suc-le-zero l)
+later-rises (x ∷ xs) zero (suc n) t l h = first-rises x xs n t (le-of-suc-le-suc h)
+later-rises (x ∷ xs) (suc m) (suc n) t l h = later-rises xs m n (tail-rises x xs t) (le-of-suc-le-suc l) (le-of-suc-le-suc h)
 
 -- ---- what is computed
 
@@ -51,6 +79,10 @@ all-placed : T (placed 0 codedSets)
 unfolding codeOf codedSets coherent once cleared armed engaged
 all-placed = tt
 
+all-rise : T (rises codedSets)
+unfolding codedSets coherent once cleared armed engaged
+all-rise = tt
+
 -- ---- the laws
 
 code-below : (s : ModeSet) → T (coherentSet s) → codeOf s < 108
@@ -71,9 +103,24 @@ code-le s = go (coherentSet s) (all-coded s)
     go true c = let l = ltb→lt (codeOf s) 108 c in omega arith
     go false c = let e = eqb→eq (codeOf s) 108 c in omega arith
 
+-- the code of a coherent set is a place in the list, where the set stands
+in-list : (s : ModeSet) → T (coherentSet s) → codeOf s < length codedSets
+in-list s t = subst (λ (k : ℕ). codeOf s < k) (sym count) (code-below s t)
+
+at-code : (s : ModeSet) → T (coherentSet s) → pick ModeSet.Off codedSets (codeOf s) ≡ s
+unfolding codeOf
+at-code s t = place-back codedSets s (in-list s t)
+
 set-back : (s : ModeSet) → T (coherentSet s) → setOf (codeOf s) ≡ Coded.Set s
-unfolding codeOf setOf
-set-back s t = place-back codedSets s (let l = code-below s t in let n = count in omega arith)
+unfolding setOf
+set-back s t = pick-set codedSets (codeOf s) (in-list s t) ∙ ap Coded.Set (at-code s t)
+
+ordered : (s t : ModeSet) → T (coherentSet s) → T (coherentSet t) → codeOf s < codeOf t → rank s < rank t
+ordered s t c d l =
+    let rise = later-rises codedSets (codeOf s) (codeOf t) all-rise l (in-list t d) in
+    let here = ap rank (at-code s c) in
+    let there = ap rank (at-code t d) in
+    omega arith
 
 pub no-set : (n : ℕ) → 108 ≤ n → setOf n ≡ Coded.NoSet
 unfolding setOf
@@ -100,7 +147,7 @@ set-at n h =
     record { set = found .0; has = found .1; coherent = found .2; back = found .3 ∙ zero-add n }
 
 pub code-laws : CodeLaws
-code-laws = record { count = count; off = off-code; code = code-below; set-back = set-back; set = set-at; no-code = no-code; no-set = no-set }
+code-laws = record { count = count; off = off-code; code = code-below; set-back = set-back; set = set-at; ordered = ordered; no-code = no-code; no-set = no-set }
 
 -- the set of a number, and of no other
 set-only : (s t : ModeSet) → Coded.Set s ≡ Coded.Set t → s ≡ t

@@ -1,11 +1,13 @@
 -- The laws of set codes. Document 02, 2026-02: 108 codes for 108 sets, each way and back. `code-laws` of `proofs/Laws.antt` proves them.
 use mathlib.Core.Path.{_≡_}
 use mathlib.Core.Bool.{false}
-use Prim.Native.Nat.{ℕ, _≤_, _<_}
+use Prim.Native.Nat.{ℕ, _+_, _*_, _≤_, _<_}
 use lib.Dec.{T}
 use lib.ListN.{length}
 use Rattle.modes.specs.declared.ModeSet.{ModeSet}
 use Rattle.modes.specs.Sets.{coherentSet}
+use Rattle.modes.specs.Numbers.{lateralNumber, verticalNumber}
+use Rattle.modes.specs.Every.{armedNumber, flagNumber}
 use Rattle.codes.specs.declared.Coded.{Coded}
 use Rattle.codes.specs.Codes.{codedSets, codeOf, setOf}
 
@@ -17,6 +19,12 @@ pub record OneSet (n : ℕ) : Type 0 where
   -- the set's code is n again
   pub back : codeOf set ≡ n
 
+-- lateral law, armed lateral mode, vertical law and VAPPR's arming, as the digits of one number, the first of which weighs most
+abbrev pub rank : ModeSet → ℕ
+rank ModeSet.Off = 0
+rank (ModeSet.On m) =
+    ((lateralNumber (m .lateral) * 3 + armedNumber (m .armed)) * 9 + verticalNumber (m .vertical)) * 2 + flagNumber (m .«vappr_armed»)
+
 pub record CodeLaws : Type 0 where
   pub count : length codedSets ≡ 108
   -- 0 is Off
@@ -26,6 +34,8 @@ pub record CodeLaws : Type 0 where
   pub set-back : (s : ModeSet) → T (coherentSet s) → setOf (codeOf s) ≡ Coded.Set s
   -- each such code has a coherent set, and that set has this code; so no two codes have one set
   pub set : (n : ℕ) → n < 108 → OneSet n
+  -- a higher code is that of a set that ranks higher
+  pub ordered : (s t : ModeSet) → T (coherentSet s) → T (coherentSet t) → codeOf s < codeOf t → rank s < rank t
   -- any other set, and any other number, is told apart
   pub no-code : (s : ModeSet) → coherentSet s ≡ false → codeOf s ≡ 108
   pub no-set : (n : ℕ) → 108 ≤ n → setOf n ≡ Coded.NoSet

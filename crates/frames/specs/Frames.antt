@@ -23,7 +23,7 @@ abbrev pub natural : ℤ → ℕ
 natural (pos n) = n
 natural (negsuc n) = 0
 
--- a reference with a number added to it, which makes it positive
+-- a reference with a number added to it, so that it needs no sign
 unfoldable pub raised : ℕ → ℤ → ℕ
 raised by x = natural (x +ℤ pos by)
 
