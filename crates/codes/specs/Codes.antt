@@ -18,7 +18,8 @@ abbrev pub keeping : {A : Type 0} → (A → Bool) → List A → List A
 keeping p [] = []
 keeping p (x ∷ xs) = cond (p x) (x ∷ keeping p xs) (keeping p xs)
 
--- all On sets, coherent or not: by lateral law, then by armed lateral mode (none, NAV, LAPPR), then by vertical law, then VAPPR not armed before armed
+-- all On sets, coherent or not. The lateral law weighs most, after it the armed lateral mode (none, NAV, LAPPR), then the vertical law, and last whether VAPPR is armed,
+-- which comes second
 abbrev pub onSets : List ModeSet
 onSets =
     forEach everyLateral (λ l. forEach everyArmed (λ a. forEach everyVertical (λ v. forEach bothFlags (λ f. ModeSet.On (ofParts l a v f) ∷ []))))
