@@ -151,7 +151,8 @@ pub fn side_acts(b: Bench, side: u32) -> bool
     side == shared.pf
 }
 
-fn references_sound(r: References) -> bool
+// Whether each reference is in its range.
+pub fn references_sound(r: References) -> bool
     ensures { λ res. ⌜ res ≡ referencesSound r ⌝ }
 {
     let heading = reference_in_range(r, HEADING);

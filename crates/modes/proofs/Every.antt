@@ -87,7 +87,7 @@ pub at-sets : (p : ModeSet → Bool) → T (everySet p) → (s : ModeSet) → T 
 at-sets p t ModeSet.Off = both-left (p ModeSet.Off) (everyModes (λ m. p (ModeSet.On m))) t
 at-sets p t (ModeSet.On m) = at-modes (λ m. p (ModeSet.On m)) (both-right (p ModeSet.Off) (everyModes (λ m. p (ModeSet.On m))) t) m
 
-same-modes : (m n : Modes) → T (sameModes m n) → m ≡ n
+pub same-modes : (m n : Modes) → T (sameModes m n) → m ≡ n
 same-modes m n t =
     let l = eqb (lateralNumber (m .lateral)) (lateralNumber (n .lateral)) in
     let a = eqb (armedNumber (m .armed)) (armedNumber (n .armed)) in

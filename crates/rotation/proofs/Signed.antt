@@ -79,15 +79,16 @@ turned (suc o) new h k =
     (λ l. sub-case (λ (z : ℤ). modOf z 256 ≡ (new + 384 - suc o) % 256) 128 (suc (suc o - suc new)) (λ m. omega arith) (λ m. omega arith))
     (λ l. omega arith)
 
--- a byte's worth and a small number, added at 32 bits
-module _ (n : ℕ) (h : n < 256) (z : ℤ) (k : T (leb (mag z) 256)) where
+-- a number without a sign and an integer, neither above m, added at 32 bits
+module _ (m : ℕ) (t : T (leb m 65536)) (n : ℕ) (h : n < m) (z : ℤ) (k : T (leb (mag z) m)) where
   as-held : toZ w32 n ≡ pos n
-  as-held = toZ-pos w32 n (omega arith)
+  as-held = let l = leb→le m 65536 t in toZ-pos w32 n (omega arith)
 
   pub small-sum-fits : SFits w32 (toZ w32 n +ℤ z)
   small-sum-fits =
-      let l = leb→le (mag z) 256 k in
-      let s = sum-mag 257 (pos n) z (omega arith) (omega arith) in
+      let l = leb→le m 65536 t in
+      let d = leb→le (mag z) m k in
+      let s = sum-mag (suc m) (pos n) z (omega arith) (omega arith) in
       rw as-held (record { sfits = omega arith })
 
   pub small-sum-is : toZ w32 (ofZ w32 (toZ w32 n +ℤ z)) ≡ pos n +ℤ z

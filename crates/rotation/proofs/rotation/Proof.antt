@@ -13,12 +13,12 @@ raised-below : (c : tie.After-raised-turn) → c .raised-turn .result < 256
 raised-below c = rw (c .raised-turn .ensures) (mod-below (pos (c .before .args .new) -ℤ pos (c .before .args .old) +ℤ pos 128) 256 (omega arith))
 
 returns : tie.Need-returns
-returns c = small-sum-is (c .raised-turn .result) (raised-below c) _ tt ∙ ap (λ (n : ℕ). pos n -ℤ pos 128) (c .raised-turn .ensures)
+returns c = small-sum-is 256 tt (c .raised-turn .result) (raised-below c) _ tt ∙ ap (λ (n : ℕ). pos n -ℤ pos 128) (c .raised-turn .ensures)
 
 pub rotation-spec : {M : Type 1} → statement M
 rotation-spec =
     tie.close (tie.spec
     (λ c κs. search needs)
     (λ c. omega (arith, raised-below c))
-    (λ c. small-sum-fits (c .raised-turn .result) (raised-below c) _ tt)
+    (λ c. small-sum-fits 256 tt (c .raised-turn .result) (raised-below c) _ tt)
     returns)

@@ -1,0 +1,4 @@
+pub mod Codes
+pub mod Numbers
+pub mod Laws
+pub mod Private
