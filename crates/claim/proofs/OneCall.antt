@@ -24,7 +24,7 @@ use Rattle.bench.proofs.Replaced.{by-side}
 use Rattle.steps.specs.Steps.{sharedAfter, withFdAfter, firstStep, laterSteps, threeSteps, acted}
 use Rattle.calls.specs.Calls.{Call, event, turn, reading, send, refresh, display, sideRefusal, ownRefusal, refusal, received, done, next, answer, eventAnswer, displayAnswer, refusalIn, reply}
 use Rattle.calls.specs.Sends.{sent, taken, refreshed}
-use Rattle.soundness.proofs.Kept.Parts.{by-cond}
+use Rattle.bench.proofs.SoundParts.{by-cond}
 use Rattle.claim.specs.Lists.{accepted, transfers, refreshes, sends}
 use Rattle.claim.proofs.Sides.{Same, same, same-trans, Within, box-other, box-written, inbox-apart, with-box-within, later-within, refreshed-within, Passive, acting-passive, turned-passive}
 

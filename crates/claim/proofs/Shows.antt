@@ -21,7 +21,7 @@ use Rattle.calls.specs.declared.answers.Display.{Display}
 use Rattle.calls.specs.Displays.{shown}
 use Rattle.calls.specs.Calls.{refusal, displayAnswer}
 use Rattle.soundness.proofs.Kept.{on-laws}
-use Rattle.soundness.proofs.Kept.Parts.{parts}
+use Rattle.bench.proofs.SoundParts.{parts}
 use Rattle.claim.specs.Claim.{Keeps, SameShown, ShowsHeld}
 use Rattle.claim.proofs.Sides.{Same}
 use Rattle.claim.proofs.OneCall.{side-accepted}

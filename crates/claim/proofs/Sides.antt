@@ -19,7 +19,7 @@ use Rattle.steps.specs.Entry.{settled}
 use Rattle.steps.specs.Steps.{laterSteps}
 use Rattle.knobs.specs.Knobs.{referred, referenceMoved, pitched, wheelTurned, preselectionChanges, altitudeTurned, headingTurned, knobTurned, counted, turned}
 use Rattle.calls.specs.Sends.{taken, refreshed}
-use Rattle.soundness.proofs.Kept.Parts.{by-cond}
+use Rattle.bench.proofs.SoundParts.{by-cond}
 
 -- ---- the same set and references: FD stays out
 

@@ -5,6 +5,7 @@ use mathlib.Core.List.{List, [], _∷_, map}
 use Prim.Native.Nat.{ℕ, zero, suc, _+_, _≤_, _<_}
 use native.Mathlib.Nat.{le-of-suc-le-suc, not-suc-le-zero, zero-add}
 use native.Mathlib.Omega.{arith}
+use borrow.Author.Tests.{ltb-true, ltb-false}
 use lib.Dec.{T, eqb, ltb, eqb→eq, ltb→lt}
 use lib.ListN.{length}
 use Rattle.modes.specs.declared.ModeSet.{ModeSet}
@@ -100,3 +101,29 @@ set-at n h =
 
 pub code-laws : CodeLaws
 code-laws = record { count = count; off = off-code; code = code-below; set-back = set-back; set = set-at; no-code = no-code; no-set = no-set }
+
+-- the set of a number, and of no other
+set-only : (s t : ModeSet) → Coded.Set s ≡ Coded.Set t → s ≡ t
+set-only s t e = ap inside e
+  where
+    inside : Coded → ModeSet
+    inside (Coded.Set s) = s
+    inside Coded.NoSet = ModeSet.Off
+
+no-set-is-set : (s : ModeSet) → Coded.NoSet ≡ Coded.Set s → ⊥
+no-set-is-set s e = subst is-none e tt
+  where
+    is-none : Coded → Type 0
+    is-none (Coded.Set s) = ⊥
+    is-none Coded.NoSet = Unit
+
+-- where a number has a set, the set is coherent and has that code
+pub decoded : (n : ℕ) (s : ModeSet) → setOf n ≡ Coded.Set s → T (coherentSet s) × (codeOf s ≡ n)
+decoded n s e = go (ltb n 108) refl
+  where
+    go : (t : Bool) → ltb n 108 ≡ t → T (coherentSet s) × (codeOf s ≡ n)
+    go true h =
+        let found = set-at n (ltb-true n 108 h) in
+        let same = set-only (found .set) s (sym (found .has) ∙ e) in
+        (subst (λ (s : ModeSet). T (coherentSet s)) same (found .coherent), subst (λ (s : ModeSet). codeOf s ≡ n) same (found .back))
+    go false h = absurd (no-set-is-set s (sym (no-set n (ltb-false n 108 h)) ∙ e))

@@ -1,7 +1,7 @@
 -- Set codes. Document 02, 2026-02: the coherent sets in a row, and a code is a set's place in it.
 use mathlib.Core.Bool.{Bool, true, false, cond}
 use mathlib.Core.List.{List, [], _∷_, _++_, map}
-use Prim.Native.Nat.{ℕ, zero, suc}
+use Prim.Native.Nat.{ℕ, suc}
 use Rattle.modes.specs.declared.ModeSet.{ModeSet}
 use Rattle.modes.specs.Finite.{pick}
 use Rattle.modes.specs.Sets.{coherentSet}

@@ -1,6 +1,6 @@
 -- The laws of set codes. Document 02, 2026-02: 108 codes for 108 sets, each way and back. `code-laws` of `proofs/Laws.antt` proves them.
 use mathlib.Core.Path.{_≡_}
-use mathlib.Core.Bool.{Bool, false}
+use mathlib.Core.Bool.{false}
 use Prim.Native.Nat.{ℕ, _≤_, _<_}
 use lib.Dec.{T}
 use lib.ListN.{length}

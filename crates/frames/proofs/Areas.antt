@@ -1,7 +1,7 @@
 -- Parts of an area: the part from a start on, and the area once the part has changed. Assumes nothing.
 use mathlib.Core.Path.{_≡_, refl, sym, ap, _∙_}
 use mathlib.Core.Bool.{Bool, true, false, not, cond}
-use mathlib.Core.List.{List, _++_, append-assoc, append-nil}
+use mathlib.Core.List.{List, _++_, append-nil}
 use Prim.Native.Nat.{ℕ, _+_, _-_, _≤_, _<_}
 use native.Mathlib.Omega.{arith}
 use borrow.Author.Tests.{ne-eqb, lt-ltb, le-ltb, lt-leb, leb-true, leb-false}
@@ -33,7 +33,7 @@ put-frame frame start area h =
 
 -- ---- a write that is not refused with 1 or 2, from what the writer of a part answers and leaves
 
-frame-length : (side : ℕ) (c : Channel) → length (frameOf side c) ≡ 19
+pub frame-length : (side : ℕ) (c : Channel) → length (frameOf side c) ≡ 19
 unfolding frameOf
 frame-length side c = refl
 

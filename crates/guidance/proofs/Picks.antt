@@ -12,7 +12,7 @@ use Rattle.bench.specs.Sound.{sound}
 use Rattle.calls.specs.declared.answers.Display.{Display}
 use Rattle.calls.specs.Displays.{shown, blank}
 use Rattle.calls.specs.Calls.{Call, display, refusal, displayAnswer}
-use Rattle.soundness.proofs.Kept.Parts.{by-cond}
+use Rattle.bench.proofs.SoundParts.{by-cond}
 use Rattle.claim.specs.Claim.{Keeps, modesOn}
 use Rattle.soundness.proofs.Kept.{power-on-sound}
 use Rattle.claim.proofs.Claimed.{sound-from, claim-from}

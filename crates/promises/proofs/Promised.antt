@@ -6,6 +6,8 @@ use Rattle.rotation.proofs.Sheet.{sheet-knobs}
 use Rattle.modes.proofs.Laws.{mode-laws}
 use Rattle.bench.proofs.Replaced.{part-laws}
 use Rattle.bench.proofs.Wholes.{reading-laws, reading-examples}
+use Rattle.codes.proofs.Laws.{code-laws}
+use Rattle.frames.proofs.Laws.{frame-laws, frame-examples}
 use Rattle.soundness.proofs.Kept.{keeps-sound, laws-in-range}
 use Rattle.soundness.proofs.Lowest.{names}
 use Rattle.claim.proofs.Claimed.{claims}
@@ -19,6 +21,7 @@ use Rattle.numerals.proofs.Examples.{numbers, integers, values}
 use Rattle.scripts.proofs.Lines.{lines}
 use Rattle.sessions.proofs.Laws.{session-laws}
 use Rattle.promises.specs.Promises.{Promises}
+use Rattle.promises.proofs.Sends.{same-as-sent}
 
 pub promises : Promises
 promises = record {
@@ -36,6 +39,10 @@ promises = record {
   part-laws = part-laws;
   reading-laws = reading-laws;
   reading-examples = reading-examples;
+  code-laws = code-laws;
+  frame-laws = frame-laws;
+  frame-examples = frame-examples;
+  same-as-sent = same-as-sent;
   whole-laws = whole-laws;
   whole-sheet = sheet-whole;
   whole-edges = edges;

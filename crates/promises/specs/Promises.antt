@@ -15,6 +15,8 @@ use Rattle.bench.specs.Holds.{powerOn}
 use Rattle.bench.specs.Laws.{PartLaws}
 use Rattle.bench.specs.Wholes.{ReadingLaws, ReadingExamples}
 use Rattle.bench.specs.Sound.{sound}
+use Rattle.codes.specs.Laws.{CodeLaws}
+use Rattle.frames.specs.Laws.{FrameLaws, FrameExamples}
 use Rattle.calls.specs.Calls.{Call}
 use Rattle.soundness.specs.Kept.{KeepsSound, LawsInRange}
 use Rattle.soundness.specs.Lowest.{NamesLowest}
@@ -28,6 +30,7 @@ use Rattle.numerals.specs.Laws.{ValueLaws}
 use Rattle.numerals.specs.Examples.{Numbers, Integers, Values}
 use Rattle.scripts.specs.Lines.{Lines}
 use Rattle.sessions.specs.Laws.{SessionLaws}
+use Rattle.promises.specs.Sends.{SameAsSent}
 
 pub record Promises : Type 2 where
   -- the entries meet their contracts, any list of calls meets demand 3, and the bench sheet holds
@@ -52,6 +55,11 @@ pub record Promises : Type 2 where
   -- a reading's whole value is its nearest integer, but for heading 360 and roll 180, and is what it is accepted by
   pub reading-laws : ReadingLaws
   pub reading-examples : ReadingExamples
+  -- set codes, and frames: what is written is read back, from one frame, as a send would copy it
+  pub code-laws : CodeLaws
+  pub frame-laws : FrameLaws
+  pub frame-examples : FrameExamples
+  pub same-as-sent : SameAsSent
   -- the leaves
   pub whole-laws : WholeLaws
   pub whole-sheet : SheetWhole

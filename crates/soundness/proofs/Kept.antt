@@ -24,9 +24,8 @@ use Rattle.bench.specs.Sound.{referencesSound, channelSound, readingsSound, sou
 use Rattle.steps.specs.Steps.{threeSteps, acted}
 use Rattle.calls.specs.Calls.{Call, event, turn, reading, send, refresh, display, ownRefusal, refusal, done, next}
 use Rattle.soundness.specs.Kept.{KeepsSound, LawsInRange}
-use Rattle.soundness.proofs.Kept.Parts.{by-cond, SoundIn, parts, whole}
+use Rattle.bench.proofs.SoundParts.{by-cond, SoundIn, parts, whole}
 use Rattle.soundness.proofs.Kept.Changes.{three-sound, turned-sound, received-sound, sent-sound, refreshed-sound}
-pub mod Parts
 pub mod Changes
 
 -- ---- power-on, computed

@@ -332,6 +332,25 @@ mod tests {
         );
     }
 
+    #[test]
+    fn no_drawing_belongs_to_the_commands_of_the_area() {
+        let script = "watch on\narea 1\npoke 0 ff\nwrite 0 0\nread 0\nbytes\nsend 0\n";
+        let answers = "watch 0\narea 0\npoke 0\nwrite 7\nread 7 0\nbytes ff\nsend 0\n\
+            panel\nend\n";
+        assert_eq!(difference(script, answers, answers), None);
+        for answer in [
+            "area 0\n",
+            "poke 0\n",
+            "write 7\n",
+            "read 7 0\n",
+            "bytes ff\n",
+        ] {
+            let drawn = answers.replacen(answer, &format!("{answer}panel\nend\n"), 1);
+            assert!(difference(script, &drawn, answers).is_some(), "{answer}");
+            assert!(difference(script, &drawn, &drawn).is_some(), "{answer}");
+        }
+    }
+
     const SCRIPT: &str = "event 1\n\n# x\npanel\nx\nsend 0 # y\n";
 
     #[test]

@@ -1,6 +1,7 @@
 //! The parts of the gate. Each makes its scripts in code and stores none.
 
 mod damage;
+mod frames;
 mod knobs;
 mod language;
 mod panels;
@@ -22,7 +23,7 @@ pub struct Part {
 const SAME: &str = "same answers";
 
 /// The drawings come last, so that all that two programs can differ in is seen before.
-pub const ALL: [Part; 8] = [
+pub const ALL: [Part; 9] = [
     Part {
         name: "bench sheet",
         found: SAME,
@@ -57,6 +58,11 @@ pub const ALL: [Part; 8] = [
         name: "random lists",
         found: SAME,
         run: random::run,
+    },
+    Part {
+        name: "frames",
+        found: SAME,
+        run: frames::run,
     },
     Part {
         name: "panels",

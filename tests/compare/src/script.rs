@@ -79,6 +79,11 @@ pub fn is_power_on(line: &[u8]) -> bool {
     command(line) == [b"power-on"]
 }
 
+/// Whether a line asks for a new bus area, which nothing that went before shows in.
+pub fn is_area(line: &[u8]) -> bool {
+    matches!(command(line)[..], [b"area", _])
+}
+
 /// What a line switches the watch to, if it does.
 pub fn watch(line: &[u8]) -> Option<bool> {
     match command(line)[..] {
@@ -201,6 +206,16 @@ mod tests {
         let mut long = b"power-on #".to_vec();
         long.resize(256, b'x');
         assert!(!is_power_on(&long));
+    }
+
+    #[test]
+    fn a_new_area_is_told_from_what_looks_like_it() {
+        for line in ["area 19\n", "area 0", "\tarea\r40 # 0\n"] {
+            assert!(is_area(line.as_bytes()), "{line:?}");
+        }
+        for line in ["area\n", "area 1 2", "Area 1", "# area 1", "areas 1"] {
+            assert!(!is_area(line.as_bytes()), "{line:?}");
+        }
     }
 
     #[test]

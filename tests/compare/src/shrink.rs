@@ -71,22 +71,21 @@ fn shortest_count(
     Some(high)
 }
 
-/// Where a shorter script might start: at the last `power-on` ahead of the last line, or, because
-/// that leaves the watch as it is, where the watch was last switched before it.
+/// Where a shorter script might start, the latest first: at the last `power-on` ahead of the last
+/// line, at the last new area, or, because a `power-on` leaves the watch as it is, where the watch
+/// was last switched before it.
 fn late_starts(prefix: &[u8]) -> Vec<usize> {
     let lines = script::lines(prefix);
     let ends = line_ends(prefix);
     let earlier = &lines[..lines.len().saturating_sub(1)];
-    let Some(power_on) = earlier.iter().rposition(|line| script::is_power_on(line)) else {
-        return Vec::new();
-    };
+    let power_on = earlier.iter().rposition(|line| script::is_power_on(line));
+    let area = earlier.iter().rposition(|line| script::is_area(line));
     let switches = |line: &&[u8]| script::watch(line).is_some();
-    let watch = earlier[..power_on].iter().rposition(switches);
-    let starts = [Some(power_on), watch].into_iter().flatten();
-    starts
-        .filter(|&index| index > 0)
-        .map(|index| ends[index])
-        .collect()
+    let watch = power_on.and_then(|end| earlier[..end].iter().rposition(switches));
+    let starts = [power_on, area, watch].into_iter().flatten();
+    let mut starts: Vec<usize> = starts.filter(|&index| index > 0).collect();
+    starts.sort_unstable_by(|one, other| other.cmp(one));
+    starts.into_iter().map(|index| ends[index]).collect()
 }
 
 #[cfg(test)]
@@ -143,6 +142,23 @@ mod tests {
         assert_eq!(found.0, text.strip_suffix("d\n").unwrap());
         let found = cut("watch on\npower-on\nbad\n", Some(2), watched);
         assert_eq!(found.0, "watch on\npower-on\nbad\n");
+    }
+
+    #[test]
+    fn it_starts_at_the_last_area_if_that_matters() {
+        let text = "a\narea 19\nb\narea 20\npower-on\nbad\n";
+        let found = cut(text, Some(5), |text| has(text, "bad"));
+        assert_eq!(found.0, "power-on\nbad\n");
+        let found = cut(text, Some(5), |text| has(text, "area") && has(text, "bad"));
+        assert_eq!(found.0, "area 20\npower-on\nbad\n");
+        let text = "a\npower-on\nb\narea 20\nbad\n";
+        let found = cut(text, Some(4), |text| has(text, "bad"));
+        assert_eq!(found.0, "area 20\nbad\n");
+        let found = cut(text, Some(4), |text| has(text, "b\n") && has(text, "bad"));
+        assert_eq!(found.0, "power-on\nb\narea 20\nbad\n");
+        let text = "a\nwatch on\narea 20\npower-on\nbad\n";
+        let found = cut(text, Some(4), |text| has(text, "on\na") && has(text, "bad"));
+        assert_eq!(found.0, "watch on\narea 20\npower-on\nbad\n");
     }
 
     #[test]

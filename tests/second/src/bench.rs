@@ -12,6 +12,9 @@ pub enum Refusal {
     Word = 4,
     NotFinite = 5,
     OutOfRange = 6,
+    Place = 7,
+    Mark = 8,
+    Field = 9,
 }
 
 /// The kinds of readings, in the order in which a bench keeps them.
@@ -110,6 +113,11 @@ pub struct References([i32; 7]);
 impl References {
     const POWER_ON: References = References([0, 0, 0, 0, 90, 0, 0]);
 
+    /// In the order in which they are shown.
+    pub fn new(values: [i32; 7]) -> References {
+        References(values)
+    }
+
     pub fn all(&self) -> [i32; 7] {
         self.0
     }
@@ -128,7 +136,7 @@ impl References {
         self.put(reference, value.clamp(low, high));
     }
 
-    fn are_in_range(&self) -> bool {
+    pub fn are_in_range(&self) -> bool {
         Reference::ALL.iter().all(|&reference| {
             let (low, high) = reference.range();
             (low..=high).contains(&self.get(reference))

@@ -20,7 +20,7 @@ fn check_sound(bench: &Bench) -> Result<(), Refusal> {
 }
 
 /// The side as an index of a sound bench.
-fn check_side(bench: &Bench, side: u32) -> Result<usize, Refusal> {
+pub fn check_side(bench: &Bench, side: u32) -> Result<usize, Refusal> {
     check_sound(bench)?;
     match side {
         0 => Ok(0),

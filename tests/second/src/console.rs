@@ -5,14 +5,20 @@ use std::io::{self, BufRead, Read, Write};
 use crate::bench::{Bench, Channel, Refusal};
 use crate::calls::{self, Display, NO_EVENT};
 use crate::float;
+use crate::frames::{self, Frame};
 use crate::names::Place;
-use crate::script::{self, Command, Damage, Problem};
+use crate::script::{self, Bus, Command, Damage, Problem};
 
 /// The most bytes of a line, its end not counted.
 const LINE_LIMIT: usize = 255;
 
+/// Why a poke that is written well can still be an error.
+const OUTSIDE: Problem = "the bytes have to lie inside the area, whose length area sets";
+
 struct State {
     bench: Bench,
+    /// The bus area, which outlives a power-on.
+    area: Vec<u8>,
     /// Whether a drawing follows what can change the bench.
     watch: bool,
 }
@@ -21,17 +27,19 @@ struct State {
 pub fn run(input: &mut impl BufRead, output: &mut impl Write) -> io::Result<()> {
     let mut state = State {
         bench: Bench::power_on(),
+        area: Vec::new(),
         watch: false,
     };
     let mut line = Vec::with_capacity(LINE_LIMIT + 1);
     let mut number = 0_u64;
     while let Some(fits) = next_line(input, &mut line)? {
         number += 1;
-        match parse(&line, fits) {
+        match parse(&line, fits).and_then(|command| admit(&state, command)) {
             Ok(None) => {}
             Ok(Some(command)) => {
+                let watched = command.is_watched();
                 carry_out(&mut state, command, output)?;
-                if state.watch && command.is_watched() {
+                if state.watch && watched {
                     write_panel(output)?;
                 }
             }
@@ -68,40 +76,35 @@ fn parse(line: &[u8], fits: bool) -> Result<Option<Command>, Problem> {
     }
 }
 
+/// Passes a command on unless it is an error in this state.
+fn admit(state: &State, command: Option<Command>) -> Result<Option<Command>, Problem> {
+    match &command {
+        Some(Command::Bus(Bus::Poke(start, bytes))) => {
+            let place = frames::place(&state.area, *start, bytes.len());
+            place.map(|_| command).ok_or(OUTSIDE)
+        }
+        _ => Ok(command),
+    }
+}
+
 fn carry_out(state: &mut State, command: Command, output: &mut impl Write) -> io::Result<()> {
     let bench = &mut state.bench;
     match command {
-        Command::Event(word) => {
-            let (refusal, answer) = parted(calls::event(bench, word), NO_EVENT);
-            writeln!(output, "event {refusal} {answer}")
-        }
+        Command::Event(word) => write_event(calls::event(bench, word), output),
         Command::Turn(knob, count) => {
-            let refusal = number_of(calls::turn(bench, knob, count));
-            writeln!(output, "turn {refusal}")
+            write_refusal("turn", calls::turn(bench, knob, count), output)
         }
         Command::Knob(knob, clicks) => {
             let count = bench.counts[knob as usize].wrapping_add_signed(clicks);
-            let refusal = number_of(calls::turn(bench, knob, count));
-            writeln!(output, "turn {refusal}")
+            write_refusal("turn", calls::turn(bench, knob, count), output)
         }
         Command::Reading(kind, bits) => {
-            let refusal = number_of(calls::reading(bench, kind, bits));
-            writeln!(output, "reading {refusal}")
+            write_refusal("reading", calls::reading(bench, kind, bits), output)
         }
-        Command::Send(side) => {
-            writeln!(output, "send {}", number_of(calls::send(bench, side)))
-        }
-        Command::Refresh(side) => {
-            writeln!(output, "refresh {}", number_of(calls::refresh(bench, side)))
-        }
-        Command::Display(side) => {
-            let (refusal, shown) = parted(calls::display(bench, side), Display::default());
-            write_display(refusal, &shown, output)
-        }
-        Command::Pick(side) => {
-            let (refusal, laws) = parted(calls::pick(bench, side), (0, 0));
-            writeln!(output, "pick {refusal} {} {}", laws.0, laws.1)
-        }
+        Command::Send(side) => write_refusal("send", calls::send(bench, side), output),
+        Command::Refresh(side) => write_refusal("refresh", calls::refresh(bench, side), output),
+        Command::Display(side) => write_display(calls::display(bench, side), output),
+        Command::Pick(side) => write_pick(calls::pick(bench, side), output),
         Command::PowerOn => {
             *bench = Bench::power_on();
             writeln!(output, "power-on 0")
@@ -112,7 +115,8 @@ fn carry_out(state: &mut State, command: Command, output: &mut impl Write) -> io
             state.watch = on;
             writeln!(output, "watch 0")
         }
-        Command::Help => writeln!(output, "help\nend"),
+        Command::Help => write_help(output),
+        Command::Bus(bus) => carry_out_bus(state, bus, output),
         Command::Damage(damage) => {
             carry_out_damage(bench, damage);
             writeln!(output, "damage 0")
@@ -126,10 +130,6 @@ fn parted<T>(result: Result<T, Refusal>, refused: T) -> (u32, T) {
         Ok(answer) => (0, answer),
         Err(refusal) => (refusal as u32, refused),
     }
-}
-
-fn number_of(result: Result<(), Refusal>) -> u32 {
-    parted(result, ()).0
 }
 
 fn carry_out_damage(bench: &mut Bench, damage: Damage) {
@@ -150,7 +150,75 @@ fn channel(bench: &mut Bench, place: Place) -> &mut Channel {
     }
 }
 
-fn write_display(refusal: u32, shown: &Display, output: &mut impl Write) -> io::Result<()> {
+fn carry_out_bus(state: &mut State, bus: Bus, output: &mut impl Write) -> io::Result<()> {
+    let State { bench, area, .. } = state;
+    match bus {
+        Bus::Area(length) => {
+            *area = vec![0; length];
+            writeln!(output, "area 0")
+        }
+        Bus::Poke(start, bytes) => {
+            if let Some(place) = frames::place(area, start, bytes.len()) {
+                area[place].copy_from_slice(&bytes);
+            }
+            writeln!(output, "poke 0")
+        }
+        Bus::Write(side, start) => {
+            write_refusal("write", frames::write(bench, side, area, start), output)
+        }
+        Bus::Read(start) => write_frame(frames::read(area, start), output),
+        Bus::Bytes => write_bytes(area, output),
+    }
+}
+
+fn write_frame(result: Result<Frame, Refusal>, output: &mut impl Write) -> io::Result<()> {
+    let (refusal, numbers) = parted(result.map(frame_numbers), vec![0; 13]);
+    write!(output, "read {refusal}")?;
+    write_numbers(&numbers, output)?;
+    writeln!(output)
+}
+
+/// Side, FD, the four numbers of the set and the references.
+fn frame_numbers(frame: Frame) -> Vec<i32> {
+    let Frame { side, channel } = frame;
+    let mut numbers = vec![i32::from(side), i32::from(channel.fd)];
+    numbers.extend(channel.modes.numbers().map(|number| number as i32));
+    numbers.extend(channel.references.all());
+    numbers
+}
+
+fn write_bytes(area: &[u8], output: &mut impl Write) -> io::Result<()> {
+    // An empty area leaves no space after the word.
+    let space = if area.is_empty() { "" } else { " " };
+    write!(output, "bytes{space}")?;
+    for byte in area {
+        write!(output, "{byte:02x}")?;
+    }
+    writeln!(output)
+}
+
+/// The answer line of a call that answers nothing else.
+fn write_refusal(
+    name: &str,
+    result: Result<(), Refusal>,
+    output: &mut impl Write,
+) -> io::Result<()> {
+    let (refusal, ()) = parted(result, ());
+    writeln!(output, "{name} {refusal}")
+}
+
+fn write_event(result: Result<u32, Refusal>, output: &mut impl Write) -> io::Result<()> {
+    let (refusal, answer) = parted(result, NO_EVENT);
+    writeln!(output, "event {refusal} {answer}")
+}
+
+fn write_pick(result: Result<(u32, u32), Refusal>, output: &mut impl Write) -> io::Result<()> {
+    let (refusal, laws) = parted(result, (0, 0));
+    writeln!(output, "pick {refusal} {} {}", laws.0, laws.1)
+}
+
+fn write_display(result: Result<Display, Refusal>, output: &mut impl Write) -> io::Result<()> {
+    let (refusal, shown) = parted(result, Display::default());
     let (fd, lateral, vertical) = (u32::from(shown.fd), shown.lateral, shown.vertical);
     write!(
         output,
@@ -164,6 +232,14 @@ fn write_display(refusal: u32, shown: &Display, output: &mut impl Write) -> io::
 /// A drawing is free between its first and its last line; here it is empty.
 fn write_panel(output: &mut impl Write) -> io::Result<()> {
     writeln!(output, "panel\nend")
+}
+
+fn write_help(output: &mut impl Write) -> io::Result<()> {
+    writeln!(output, "help")?;
+    for form in script::FORMS {
+        writeln!(output, "{form}")?;
+    }
+    writeln!(output, "end")
 }
 
 fn write_bench(bench: &Bench, output: &mut impl Write) -> io::Result<()> {

@@ -5,9 +5,11 @@
 
 mod bench;
 mod calls;
+mod codes;
 mod console;
 mod events;
 mod float;
+mod frames;
 mod names;
 mod script;
 mod sets;

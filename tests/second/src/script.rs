@@ -9,7 +9,7 @@ use crate::float;
 use crate::names::{self, Place};
 use crate::sets::ModeSet;
 
-#[derive(Clone, Copy, PartialEq, Eq, Debug)]
+#[derive(Clone, PartialEq, Eq, Debug)]
 pub enum Command {
     Event(u32),
     Turn(u32, u8),
@@ -26,20 +26,32 @@ pub enum Command {
     Watch(bool),
     Help,
     Damage(Damage),
+    Bus(Bus),
 }
 
 impl Command {
     /// Whether it is a command that can change the bench, even if this one
     /// does not.
-    pub fn is_watched(self) -> bool {
+    pub fn is_watched(&self) -> bool {
         match self {
             Command::Event(_) | Command::Turn(..) | Command::Knob(..) => true,
             Command::Reading(..) | Command::Send(_) | Command::Refresh(_) => true,
             Command::PowerOn | Command::Damage(_) => true,
             Command::Display(_) | Command::Pick(_) | Command::Bench => false,
             Command::Panel | Command::Watch(_) | Command::Help => false,
+            Command::Bus(_) => false,
         }
     }
+}
+
+/// What is done in the bus area. None of it can change the bench.
+#[derive(Clone, PartialEq, Eq, Debug)]
+pub enum Bus {
+    Area(usize),
+    Poke(u64, Vec<u8>),
+    Write(u32, u64),
+    Read(u64),
+    Bytes,
 }
 
 #[derive(Clone, Copy, PartialEq, Eq, Debug)]
@@ -54,7 +66,7 @@ pub enum Damage {
 pub type Problem = &'static str;
 
 const NAME: Problem = "a command is event, press, signal, turn, knob, reading, send, refresh, \
-    display, pick, power-on, bench, panel, damage, watch or help";
+    display, pick, power-on, bench, panel, damage, watch, help, area, poke, write, read or bytes";
 const ALONE: Problem = "this command is one word alone";
 const EVENT: Problem = "event takes one number from 0 to 4294967295";
 const PRESS: Problem = "press takes one switch: ap-disconnect, ap, go-around, transfer, fd-left, \
@@ -83,6 +95,43 @@ const TARGET: Problem = "here goes set and four numbers, or a reference and a nu
 const REFERENCE: Problem = "a reference is heading, preselected, held, vertical-speed, ias, roll \
     or pitch";
 const AMOUNT: Problem = "a reference takes a number from -2147483648 to 2147483647";
+
+const AREA: Problem = "area takes one length from 0 to 2048";
+const POKE: Problem = "poke takes a start and the bytes";
+const WRITE: Problem = "write takes a side and a start";
+const START: Problem = "here goes one start, a number from 0 to 18446744073709551615";
+const BYTES: Problem = "bytes are pairs of hexadecimal digits without anything between";
+
+/// The commands, for people who ask for help.
+pub const FORMS: [&str; 24] = [
+    "event WORD",
+    "press SWITCH",
+    "signal SIGNAL",
+    "turn KNOB COUNT",
+    "knob KNOB CLICKS",
+    "reading KIND VALUE",
+    "send SIDE",
+    "refresh SIDE",
+    "display SIDE",
+    "pick SIDE",
+    "power-on",
+    "bench",
+    "panel",
+    "damage pf N",
+    "damage BOX set LATERAL ARMED VERTICAL VAPPR-ARMED",
+    "damage BOX REFERENCE N",
+    "damage reading KIND VALUE",
+    "watch on, watch off",
+    "help",
+    "area LENGTH",
+    "poke START HEX",
+    "write SIDE START",
+    "read START",
+    "bytes",
+];
+
+/// The longest bus area.
+const MOST_BYTES: usize = 2_048;
 
 /// More words than any command has, so that surplus ones are noticed.
 const MOST_WORDS: usize = 8;
@@ -130,6 +179,11 @@ fn command(name: &[u8], arguments: &[&[u8]]) -> Result<Command, Problem> {
         b"watch" => one(arguments, names::on_or_off, WATCH).map(Command::Watch),
         b"help" => alone(arguments, Command::Help),
         b"damage" => damage(arguments).map(Command::Damage),
+        b"area" => one(arguments, length, AREA).map(|length| Command::Bus(Bus::Area(length))),
+        b"poke" => poke(arguments).map(Command::Bus),
+        b"write" => write(arguments).map(Command::Bus),
+        b"read" => one(arguments, start, START).map(|start| Command::Bus(Bus::Read(start))),
+        b"bytes" => alone(arguments, Command::Bus(Bus::Bytes)),
         _ => Err(NAME),
     }
 }
@@ -234,17 +288,56 @@ fn set(words: &[&[u8]]) -> Option<ModeSet> {
     }
 }
 
+// ---- The bus area ----
+
+fn poke(arguments: &[&[u8]]) -> Result<Bus, Problem> {
+    let [place, bytes] = arguments else {
+        return Err(POKE);
+    };
+    let start = start(place).ok_or(START)?;
+    Ok(Bus::Poke(start, pairs(bytes).ok_or(BYTES)?))
+}
+
+fn write(arguments: &[&[u8]]) -> Result<Bus, Problem> {
+    let [name, place] = arguments else {
+        return Err(WRITE);
+    };
+    let side = side(name).ok_or(SIDE)?;
+    Ok(Bus::Write(side, start(place).ok_or(START)?))
+}
+
+fn length(word: &[u8]) -> Option<usize> {
+    let length = usize::try_from(digits(word)?).ok();
+    length.filter(|&length| length <= MOST_BYTES)
+}
+
+fn start(word: &[u8]) -> Option<u64> {
+    u64::try_from(digits(word)?).ok()
+}
+
+/// The bytes of pairs of hexadecimal digits. No word is empty, so there is one
+/// pair at least.
+fn pairs(word: &[u8]) -> Option<Vec<u8>> {
+    let (pairs, rest) = word.as_chunks();
+    if !rest.is_empty() {
+        return None;
+    }
+    let byte = |&[high, low]: &[u8; 2]| Some(hex_digit(high)? << 4 | hex_digit(low)?);
+    pairs.iter().map(byte).collect()
+}
+
 // ---- Whole numbers ----
 
 /// At least one digit and nothing else, read as a number.
-fn digits(word: &[u8]) -> Option<u64> {
+fn digits(word: &[u8]) -> Option<u128> {
     if word.is_empty() || !word.iter().all(u8::is_ascii_digit) {
         return None;
     }
-    // Saturation keeps a number of any length out of range.
-    Some(word.iter().fold(0_u64, |sum, &digit| {
+    // Saturation keeps a number of any length out of range. The widest range is
+    // all of 64 bits, so these are not enough here.
+    Some(word.iter().fold(0_u128, |sum, &digit| {
         sum.saturating_mul(10)
-            .saturating_add(u64::from(digit - b'0'))
+            .saturating_add(u128::from(digit - b'0'))
     }))
 }
 
@@ -292,14 +385,19 @@ fn hexadecimal(pattern: &[u8]) -> Option<u64> {
         return None;
     }
     let bits = pattern.iter().try_fold(0, |sum, &digit| {
-        let digit = char::from(digit).to_digit(16);
-        Some(sum << 4 | u64::from(digit?))
+        Some(sum << 4 | u64::from(hex_digit(digit)?))
     })?;
     Some(if float::is_nan(bits) {
         float::NAN
     } else {
         bits
     })
+}
+
+/// Of either letter case.
+fn hex_digit(digit: u8) -> Option<u8> {
+    let value = char::from(digit).to_digit(16)?;
+    u8::try_from(value).ok()
 }
 
 const MOST_DIGITS: usize = 15;
@@ -412,6 +510,13 @@ mod tests {
         assert_eq!(signed(b"2147483648"), None);
         assert_eq!(signed(b"-2147483649"), None);
         assert_eq!(signed(&[b'9'; 200]), None);
+        assert_eq!(start(b"18446744073709551615"), Some(u64::MAX));
+        assert_eq!(start(b"18446744073709551616"), None);
+        assert_eq!(start(b"340282366920938463463374607431768211456"), None);
+        assert_eq!(start(&[b'9'; 200]), None);
+        assert_eq!(length(b"2048"), Some(2_048));
+        assert_eq!(length(b"2049"), None);
+        assert_eq!(length(b"18446744073709551616"), None);
         assert_eq!(signed_byte(b"-128"), Some(-128));
         assert_eq!(signed_byte(b"127"), Some(127));
         for word in ["-129", "128", "255", "-256", "+1", "--1", "-", "4294967295"] {
@@ -457,7 +562,7 @@ mod tests {
     /// Lines that all mean the same.
     fn assert_same(lines: &[&str], expected: Command) {
         for line in lines {
-            assert_eq!(parse(line.as_bytes()), Ok(Some(expected)), "{line}");
+            assert_eq!(parse(line.as_bytes()), Ok(Some(expected.clone())), "{line}");
         }
     }
 
@@ -520,6 +625,60 @@ mod tests {
         assert_same(&["help", " help #"], Command::Help);
     }
 
+    fn bus(bus: Bus) -> Command {
+        Command::Bus(bus)
+    }
+
+    #[test]
+    fn the_bus_area() {
+        assert_same(&["area 0", "area 000"], bus(Bus::Area(0)));
+        assert_same(&["area 2048", "area 02048"], bus(Bus::Area(2_048)));
+        assert_same(
+            &["poke 7 0aFf", "poke 7 0AFF", "poke 007 0aff#00"],
+            bus(Bus::Poke(7, vec![0x0a, 0xff])),
+        );
+        assert_same(
+            &["poke 18446744073709551615 5b"],
+            bus(Bus::Poke(u64::MAX, vec![0x5b])),
+        );
+        assert_same(&["write left 3", "write 0 3"], bus(Bus::Write(0, 3)));
+        assert_same(&["write right 00", "write 01 0"], bus(Bus::Write(1, 0)));
+        assert_same(
+            &["write 4294967295 18446744073709551615"],
+            bus(Bus::Write(u32::MAX, u64::MAX)),
+        );
+        assert_same(&["read 0", "read 00"], bus(Bus::Read(0)));
+        assert_same(
+            &["read 18446744073709551615", "read 000018446744073709551615"],
+            bus(Bus::Read(u64::MAX)),
+        );
+        assert_same(&["bytes", "\tbytes\r# 0"], bus(Bus::Bytes));
+    }
+
+    #[test]
+    fn a_line_has_room_for_124_pairs() {
+        let line = format!("poke 0 {}", "c3".repeat(124));
+        assert_eq!(line.len(), 255);
+        assert_same(&[&line], bus(Bus::Poke(0, vec![0xc3; 124])));
+    }
+
+    #[test]
+    fn help_has_a_form_of_every_command() {
+        for form in FORMS {
+            let name = form.split(' ').next().unwrap();
+            assert_ne!(command(name.as_bytes(), &[]), Err(NAME), "{form}");
+        }
+        let listed = |name: &str| {
+            FORMS
+                .iter()
+                .any(|form| form.split(' ').next() == Some(name))
+        };
+        let names = NAME.strip_prefix("a command is ").unwrap();
+        for name in names.replace(" or ", ", ").split(", ") {
+            assert!(listed(name), "{name}");
+        }
+    }
+
     #[test]
     fn what_is_watched_can_change_the_bench() {
         let watched = |line: &str| parse(line.as_bytes()).unwrap().unwrap().is_watched();
@@ -545,6 +704,11 @@ mod tests {
             "panel",
             "watch on",
             "help",
+            "area 19",
+            "poke 0 00",
+            "write left 0",
+            "read 0",
+            "bytes",
         ] {
             assert!(!watched(line), "{line}");
         }
@@ -644,6 +808,55 @@ mod tests {
     }
 
     #[test]
+    fn lines_that_are_no_command_of_the_area() {
+        for line in [
+            "area",
+            "area 2049",
+            "area -1",
+            "area left",
+            "area 1 2",
+            "area 18446744073709551616",
+            "Area 1",
+            "poke",
+            "poke 0",
+            "poke 0 0",
+            "poke 0 000",
+            "poke 0 0g",
+            "poke 0 g0",
+            "poke 0 0x00",
+            "poke 0 +0",
+            "poke 0 00 00",
+            "poke 00,00",
+            "poke -1 00",
+            "poke left 00",
+            "poke 18446744073709551616 00",
+            "poke # 0 00",
+            "poke 0 0#0",
+            "write",
+            "write 0",
+            "write left",
+            "write 0 0 0",
+            "write both 0",
+            "write 0 left",
+            "write 0 -1",
+            "write -1 0",
+            "write 4294967296 0",
+            "write 0 18446744073709551616",
+            "write left-inbox 0",
+            "read",
+            "read left",
+            "read 0 0",
+            "read 0x0",
+            "read 18446744073709551616",
+            "bytes 0",
+            "byte",
+            "bytes bytes",
+        ] {
+            assert!(parse(line.as_bytes()).is_err(), "{line}");
+        }
+    }
+
+    #[test]
     fn a_problem_says_what_is_accepted_where_the_line_went_wrong() {
         for (line, accepted) in [
             ("even 1", "knob"),
@@ -663,6 +876,15 @@ mod tests {
             ("damage left speed 1", "ias"),
             ("damage left ias x", "-2147483648"),
             ("damage left set 6 0 1 0", "1 to 5"),
+            ("are 1", "area"),
+            ("area 2049", "2048"),
+            ("poke 0", "start"),
+            ("poke x 00", "18446744073709551615"),
+            ("poke 0 0", "hexadecimal"),
+            ("write 0", "side"),
+            ("write both 0", "left"),
+            ("write 0 x", "18446744073709551615"),
+            ("read x", "18446744073709551615"),
         ] {
             let problem = parse(line.as_bytes()).unwrap_err();
             assert!(problem.contains(accepted), "{line}: {problem}");

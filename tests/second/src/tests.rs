@@ -1,6 +1,7 @@
 //! Tests over whole calls and whole scripts.
 
 mod circles;
+mod frames;
 mod refusals;
 mod rules;
 mod scripts;

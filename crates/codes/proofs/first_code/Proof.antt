@@ -1,8 +1,5 @@
 -- `codes::first_code` meets its contract: each arm has the three numbers of its lateral mode. Assumes nothing.
-use mathlib.Core.Path.{_∙_, sym, ap}
 use borrow.Author.Needs.{needs}
-use Rattle.modes.specs.declared.Lateral.{Lateral}
-use Rattle.codes.specs.Private.{firstCode}
 use Rattle.codes.proofs.first_code.Statement.{statement}
 use Rattle.codes.proofs.first_code.Tie as tie
 

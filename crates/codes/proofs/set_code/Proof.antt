@@ -1,8 +1,6 @@
 -- `codes::set_code` meets its contract: Off is the list's first set, and the code of an On set is asked for. Assumes nothing.
-use mathlib.Core.Path.{_∙_, sym, ap}
+use mathlib.Core.Path.{sym}
 use borrow.Author.Needs.{needs}
-use Rattle.modes.specs.declared.ModeSet.{ModeSet}
-use Rattle.codes.specs.Codes.{codeOf}
 use Rattle.codes.proofs.Joins.{off-code}
 use Rattle.codes.proofs.set_code.Statement.{statement}
 use Rattle.codes.proofs.set_code.Tie as tie

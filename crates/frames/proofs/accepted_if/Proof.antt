@@ -1,5 +1,4 @@
 -- `frames::accepted_if` meets its contract: the test is the definition's. Assumes nothing.
-use mathlib.Core.Path.{sym}
 use borrow.Author.Needs.{needs}
 use Rattle.frames.proofs.accepted_if.Statement.{statement}
 use Rattle.frames.proofs.accepted_if.Tie as tie

@@ -1,5 +1,4 @@
 -- `frames::lowered` meets its contract: 32 bits hold the difference of two numbers of 16. Assumes nothing.
-use mathlib.Core.Path.{_∙_}
 use borrow.Author.Needs.{needs}
 use lib.IntN.{negℤ}
 use Rattle.rotation.proofs.Signed.{same32, small-sum-fits, small-sum-is}

@@ -17,7 +17,9 @@ cast-low : tie.Need-cast-low
 cast-low c = omega (arith, c .shared-slice-known3 .given (c .before .before .before .args .at + 1))
 
 mul-lowered : tie.Need-mul-lowered
-mul-lowered c = omega (arith, c .before .shared-slice-known2 .given (c .before .before .before .args .at))
+mul-lowered c =
+    let at = c .before .before .before .args .at in
+    omega (arith, c .before .shared-slice-known2 .given at, c .shared-slice-known3 .given (at + 1))
 
 add-lowered : tie.Need-add-lowered
 add-lowered c =

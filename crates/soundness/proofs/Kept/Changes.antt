@@ -34,7 +34,7 @@ use Rattle.steps.specs.Steps.{sharedAfter, fdAfter, withFdAfter, firstStep, isO
 use Rattle.knobs.specs.Knobs.{moved, referred, referenceMoved, pitched, wheelTurned, altitudeMoved, preselectionChanges, altitudeTurned, headingMoved, headingTurned, knobTurned, counted, turned}
 use Rattle.calls.specs.Calls.{received}
 use Rattle.calls.specs.Sends.{sent, taken, refreshed}
-use Rattle.soundness.proofs.Kept.Parts.{by-cond, and-both, ReferencesIn, ChannelIn, ReadingsIn, SoundIn}
+use Rattle.bench.proofs.SoundParts.{by-cond, and-both, ReferencesIn, ChannelIn, ReadingsIn, SoundIn}
 
 -- ---- boxes
 

@@ -71,7 +71,7 @@ fn whole_scripts() -> Vec<Script> {
     scripts
 }
 
-const ENDS: [&[u8]; 32] = [
+const ENDS: [&[u8]; 36] = [
     b"",
     b"\n",
     b"\n\n\n",
@@ -104,6 +104,10 @@ const ENDS: [&[u8]; 32] = [
     b"watch on\npanel\nhelp\nevent 1\npanel",
     b"watch on\npower-on\nx\n\nevent 1\nwatch off\nevent 1",
     b"send left\nwatch off\nsend 2",
+    b"bytes",
+    b"area 3\nbytes",
+    b"area 19\nwrite 0 0\nread 0",
+    b"area 2\npoke 1 fF",
 ];
 
 /// The lines of a text, the last one without a newline if the text has none there.

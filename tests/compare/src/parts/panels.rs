@@ -395,7 +395,10 @@ fn by_chance(seed: u64) -> Vec<State> {
 /// Whether a line of a calm list is of a command that can change the bench.
 fn is_watched(line: &str) -> bool {
     let name = line.split(' ').next();
-    !matches!(name, Some("display" | "pick" | "bench"))
+    !matches!(
+        name,
+        Some("display" | "pick" | "bench" | "area" | "poke" | "write" | "read" | "bytes")
+    )
 }
 
 #[cfg(test)]

@@ -1,9 +1,11 @@
 //! Lists of calls by chance.
 
+mod bus;
 mod values;
 
 use std::collections::BTreeSet;
 
+use self::bus::Bus;
 use super::words::{self, Set, BOXES, KINDS, KNOBS, REFERENCES, SIDES};
 use crate::compare;
 use crate::gate::{Gate, Stop};
@@ -49,6 +51,7 @@ pub fn list(seed: u64, number: u64, length: usize) -> Script {
     let mut maker = Maker {
         rng: Rng::of_list(seed, number),
         counts: [0; 4],
+        bus: Bus::default(),
         calm: number.is_multiple_of(2),
         until_power_on: None,
     };
@@ -63,6 +66,8 @@ struct Maker {
     rng: Rng,
     /// The last counts given, so that most turns are small.
     counts: [u8; 4],
+    /// The bus area, which a power-on leaves as it is.
+    bus: Bus,
     calm: bool,
     /// After a damage, how many calls come ahead of the next power-on.
     until_power_on: Option<usize>,
@@ -71,7 +76,7 @@ struct Maker {
 type Make = fn(&mut Maker) -> String;
 
 /// Commands of every list, by weight.
-const CALM: [(usize, Make); 8] = [
+const CALM: [(usize, Make); 13] = [
     (400, Maker::event),
     (140, Maker::turn),
     (130, Maker::reading),
@@ -80,6 +85,11 @@ const CALM: [(usize, Make); 8] = [
     (160, |maker| maker.on_side("display")),
     (20, |maker| maker.on_side("pick")),
     (20, |_| "bench".to_string()),
+    (4, |maker| maker.bus.area(&mut maker.rng)),
+    (25, |maker| maker.bus.poke(&mut maker.rng)),
+    (35, Maker::write),
+    (40, |maker| maker.bus.read(&mut maker.rng)),
+    (20, |_| "bytes".to_string()),
 ];
 
 /// How many of a hundred events, knobs and sides are named where they can be.
@@ -204,6 +214,11 @@ impl Maker {
         }
     }
 
+    fn write(&mut self) -> String {
+        let start = self.bus.write_start(&mut self.rng);
+        format!("{} {start}", self.on_side("write"))
+    }
+
     fn damage(&mut self) -> String {
         self.until_power_on.get_or_insert(1 + self.rng.below(8));
         let place = self.rng.pick(&BOXES);
@@ -236,7 +251,7 @@ impl Maker {
 }
 
 /// Each is answered by an error.
-const ERRORS: [&str; 22] = [
+const ERRORS: [&str; 34] = [
     "event",
     "event x",
     "event 4294967296",
@@ -259,6 +274,18 @@ const ERRORS: [&str; 22] = [
     "power-on 1",
     "damage left set 6 0 1 0",
     "damage left ias 2147483648",
+    "area",
+    "area 2049",
+    "poke 0",
+    "poke 0 0",
+    "poke 0 0g",
+    "poke 2048 00",
+    "poke 18446744073709551615 ff",
+    "write 0",
+    "write 0 18446744073709551616",
+    "write left-inbox 0",
+    "read -1",
+    "bytes 0",
 ];
 
 #[cfg(test)]
@@ -296,7 +323,7 @@ mod tests {
             let counts = counts(&script);
             for name in [
                 "event", "press", "signal", "turn", "knob", "reading", "send", "refresh",
-                "display", "pick", "bench",
+                "display", "pick", "bench", "poke", "write", "read", "bytes",
             ] {
                 assert!(counts.get(name) > Some(&250), "{name} {counts:?}");
             }
@@ -352,6 +379,10 @@ mod tests {
                     let line = format!("{command} {side}");
                     assert!(lines.contains(line.as_str()), "{line}");
                 }
+            }
+            for side in ["left", "right", "0", "1", "2"] {
+                let start = format!("write {side} ");
+                assert!(lines.iter().any(|line| line.starts_with(&start)), "{start}");
             }
             assert!(!lines.iter().any(|line| line.starts_with("watch")));
         }

@@ -6,7 +6,7 @@ use crate::gate::{Gate, Stop};
 use crate::script::Script;
 
 /// Commands and their answers.
-type Case = &'static [(&'static str, &'static str)];
+pub type Case = &'static [(&'static str, &'static str)];
 
 pub fn run(gate: &mut Gate) -> Result<(), Stop> {
     for case in CASES {
@@ -16,7 +16,7 @@ pub fn run(gate: &mut Gate) -> Result<(), Stop> {
     Ok(())
 }
 
-fn texts(case: Case) -> (Script, String) {
+pub fn texts(case: Case) -> (Script, String) {
     let mut script = Script::default();
     let mut paper = String::new();
     for (command, answer) in case {

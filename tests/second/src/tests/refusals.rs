@@ -4,6 +4,7 @@ use super::after;
 use crate::bench::{Bench, Channel, Kind, Reference, Refusal};
 use crate::calls;
 use crate::float;
+use crate::frames;
 use crate::sets::ModeSet;
 
 const INFINITE: u64 = 0x7ff0_0000_0000_0000;
@@ -21,6 +22,11 @@ pub fn assert_unsound(bench: Bench) {
         assert_eq!(calls::refresh(&mut kept, argument), Err(unsound));
         assert_eq!(calls::display(&kept, argument), Err(unsound));
         assert_eq!(calls::pick(&kept, argument), Err(unsound));
+        let mut area = [0xee; 40];
+        for start in [0, 30, u64::MAX] {
+            let answer = frames::write(&kept, argument, &mut area, start);
+            assert_eq!((answer, area), (Err(unsound), [0xee; 40]));
+        }
     }
     for bits in [0, INFINITE, float::NAN, 1e9_f64.to_bits()] {
         assert_eq!(calls::reading(&mut kept, Kind::Roll, bits), Err(unsound));

@@ -153,7 +153,7 @@ fn clicks_on_a_damaged_bench_are_refused_and_leave_the_count() {
 }
 
 #[test]
-fn a_drawing_follows_what_is_watched_and_nothing_else() {
+fn a_drawing_follows_what_is_watched() {
     let drawing = "panel\nend\n";
     for (line, answer) in [
         ("event 0", "event 0 32"),
@@ -179,6 +179,10 @@ fn a_drawing_follows_what_is_watched_and_nothing_else() {
         let expected = format!("watch 0\n{answer}\n{drawing}watch 0\n{answer}\n");
         assert_eq!(answers(script.as_bytes()), expected, "{line}");
     }
+}
+
+#[test]
+fn no_drawing_follows_what_is_not_watched() {
     for line in [
         "display 0",
         "pick 0",
@@ -187,6 +191,12 @@ fn a_drawing_follows_what_is_watched_and_nothing_else() {
         "watch on",
         "help",
         "x",
+        "area 20",
+        "area 2049",
+        "poke 0 00",
+        "write 0 0",
+        "read 0",
+        "bytes",
     ] {
         let alone = answers(format!("\n{line}\n").as_bytes());
         let watched = answers(format!("watch on\n{line}\n").as_bytes());
@@ -210,7 +220,20 @@ fn the_watch_is_off_at_first_and_no_part_of_the_bench() {
 
 #[test]
 fn help_is_a_block() {
-    assert_eq!(answers(b"help\nsend 0\n"), "help\nend\nsend 0\n");
+    let output = answers(b"help\nsend 0\n");
+    let lines: Vec<&str> = output.lines().collect();
+    assert_eq!(lines.first(), Some(&"help"));
+    assert_eq!(lines[lines.len() - 2..], ["end", "send 0"]);
+    for form in [
+        "event WORD",
+        "area LENGTH",
+        "poke START HEX",
+        "write SIDE START",
+        "read START",
+        "bytes",
+    ] {
+        assert!(lines.contains(&form), "{form}");
+    }
 }
 
 #[test]
@@ -227,4 +250,83 @@ fn tabs_and_carriage_returns_count_as_bytes_of_a_line() {
             assert_eq!(answers(&blank).is_empty(), fits);
         }
     }
+}
+
+/// The frame of left at power-on.
+const LEFT: &str = "46474200010000000000321b14005a1f401f40";
+
+#[test]
+fn a_frame_is_written_and_read_in_the_area() {
+    let script = b"bytes\narea 21\nbytes\npoke 0 Ab\npoke 20 cD\nwrite left 1\nbytes\nread 1\n\
+        read 2\nread 3\nread 0\npoke 6 02\nread 1\nwrite 2 1\nwrite right 3\nbytes\n";
+    let zeros = " 0".repeat(13);
+    let expected = format!(
+        "bytes\narea 0\nbytes {}\npoke 0\npoke 0\nwrite 0\nbytes ab{LEFT}cd\n\
+         read 0 0 0 0 0 0 0 0 0 0 0 90 0 0\nread 8{zeros}\nread 7{zeros}\nread 8{zeros}\n\
+         poke 0\nread 9{zeros}\nwrite 2\nwrite 7\nbytes ab{}cd\n",
+        "00".repeat(21),
+        LEFT.replacen("000100", "000102", 1),
+    );
+    assert_eq!(answers(script), expected);
+}
+
+#[test]
+fn references_of_a_frame_come_in_the_order_of_all_answers() {
+    let script =
+        b"damage right set 5 2 8 1\ndamage right heading 258\ndamage right preselected 4660\n\
+        damage right held -7000\ndamage right vertical-speed -3\ndamage right ias 300\n\
+        damage right roll 5\ndamage right pitch -7\npress fd-right\narea 19\nwrite 1 0\nbytes\n\
+        read 0\n";
+    let end = "write 0\nbytes 464742000101016b01022f200d012c317403e8\n\
+        read 0 1 1 5 2 8 1 258 4660 -7000 -3 300 5 -7\n";
+    assert!(answers(script).ends_with(end));
+}
+
+#[test]
+fn the_area_is_no_part_of_the_bench() {
+    let script = b"area 19\nwrite 0 0\npower-on\nbytes\ndamage pf 2\nwrite 0 0\nread 0\nbench x\n\
+        area 2049\nbytes\narea 19\nbytes\narea 0\nread 0\nbytes\n";
+    let output = answers(script);
+    let lines: Vec<&str> = output.lines().collect();
+    let written = format!("bytes {LEFT}");
+    assert_eq!(lines[3], written);
+    assert_eq!(lines[5], "write 1");
+    assert_eq!(lines[6], "read 0 0 0 0 0 0 0 0 0 0 0 90 0 0");
+    assert!(is_error(lines[7], 8) && is_error(lines[8], 9));
+    assert_eq!(lines[9], written);
+    assert_eq!(lines[11], format!("bytes {}", "00".repeat(19)));
+    assert_eq!(lines[13], format!("read 7{}", " 0".repeat(13)));
+    assert_eq!(lines[14], "bytes");
+}
+
+#[test]
+fn frames_change_no_bench() {
+    let commands = b"press appr\narea 40\nsend right\nbench\n";
+    let with_frames = b"press appr\narea 40\nwrite left 0\nwrite right 19\nread 0\nsend right\n\
+        write 1 3\nread 19\npoke 0 ff\nread 3\nbench\n";
+    let last = |script| answers(script).lines().last().unwrap().to_string();
+    assert_eq!(last(commands), last(with_frames));
+}
+
+#[test]
+fn a_poke_lies_inside_the_area_or_is_an_error() {
+    for (line, inside) in [
+        ("poke 0 11223344", true),
+        ("poke 3 11", true),
+        ("poke 2 1122", true),
+        ("poke 3 1122", false),
+        ("poke 4 11", false),
+        ("poke 5 11", false),
+        ("poke 0 1122334455", false),
+        ("poke 18446744073709551615 11", false),
+        ("poke 18446744073709551615 1122", false),
+        ("poke 18446744073709551612 1122334455667788", false),
+    ] {
+        let output = answers(format!("area 4\n{line}\nbytes\n").as_bytes());
+        let lines: Vec<&str> = output.lines().collect();
+        assert_eq!(lines[1] == "poke 0", inside, "{line}");
+        assert_eq!(is_error(lines[1], 2), !inside, "{line}");
+        assert_eq!(lines[2] == "bytes 00000000", !inside, "{line}");
+    }
+    assert!(is_error(&answers(b"poke 0 00\n"), 1));
 }

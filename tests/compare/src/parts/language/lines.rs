@@ -1,7 +1,7 @@
 //! Lines that are commands, and lines that look like commands.
 
 /// One of each form, as they should be.
-pub const VALID: [&str; 45] = [
+pub const VALID: [&str; 54] = [
     "event 16384",
     "event 0",
     "event 4294967295",
@@ -47,6 +47,15 @@ pub const VALID: [&str; 45] = [
     "watch on",
     "watch off",
     "help",
+    "area 24",
+    "poke 5 46474200010000000000321b14005a1f401f40",
+    "read 5",
+    "poke 10 01",
+    "write 0 0",
+    "write right 5",
+    "write 2 0",
+    "read 18446744073709551615",
+    "bytes",
 ];
 
 /// What parts words, alone and in company.
@@ -203,7 +212,8 @@ mod tests {
     fn every_command_of_the_language_is_there() {
         for name in [
             "event", "turn", "reading", "send", "refresh", "display", "pick", "power-on", "bench",
-            "panel", "damage", "press", "signal", "knob", "watch", "help",
+            "panel", "damage", "press", "signal", "knob", "watch", "help", "area", "poke", "write",
+            "read", "bytes",
         ] {
             let found = VALID
                 .iter()

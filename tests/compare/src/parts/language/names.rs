@@ -6,7 +6,7 @@ use std::collections::BTreeSet;
 use crate::parts::words::{BOXES, KINDS, KNOBS, REFERENCES, SIDES, SIGNALS, SWITCHES};
 
 /// The places; each takes a word where the braces stand.
-const PLACES: [&str; 28] = [
+const PLACES: [&str; 35] = [
     "{}",
     "event {}",
     "press {}",
@@ -35,11 +35,18 @@ const PLACES: [&str; 28] = [
     "damage left heading {}",
     "damage left set {} 0 1 0",
     "damage reading {} 7",
+    "area {}",
+    "poke {} 5a",
+    "poke 0 {}",
+    "write {} 0",
+    "write 0 {}",
+    "read {}",
+    "bytes {}",
 ];
 
-const COMMANDS: [&str; 16] = [
+const COMMANDS: [&str; 21] = [
     "event", "turn", "reading", "send", "refresh", "display", "pick", "power-on", "bench", "panel",
-    "damage", "press", "signal", "knob", "watch", "help",
+    "damage", "press", "signal", "knob", "watch", "help", "area", "poke", "write", "read", "bytes",
 ];
 
 const OTHERS: [&str; 10] = ["on", "off", "set", "pf", "end", "0", "1", "3", "4", "14"];
@@ -89,8 +96,19 @@ fn homes() -> Vec<(&'static str, Vec<&'static str>)> {
         ("{} nav-captured", vec!["signal"]),
         ("{} wheel 7", vec!["knob"]),
         ("{} on", vec!["watch"]),
+        ("{} 24", vec!["area"]),
+        ("{} 0 5a", vec!["poke"]),
+        ("{} 0 0", vec!["write"]),
+        ("{} 0", vec!["read"]),
+        ("{}", vec!["bytes"]),
     ];
-    for place in ["send {}", "refresh {}", "display {}", "pick {}"] {
+    for place in [
+        "send {}",
+        "refresh {}",
+        "display {}",
+        "pick {}",
+        "write {} 0",
+    ] {
         homes.push((place, SIDES.to_vec()));
     }
     homes
@@ -157,6 +175,12 @@ mod tests {
             "display wheel",
             "help",
             "panel left",
+            "write left 0",
+            "write wheel 0",
+            "write 0 left",
+            "read right",
+            "poke 0 off",
+            "bytes bytes",
         ] {
             assert!(all.contains(line), "{line}");
         }
@@ -194,6 +218,12 @@ mod tests {
             "Press hdg",
             "kno wheel 7",
             "Watch on",
+            "are 24",
+            "Poke 0 5a",
+            "write lef 0",
+            "writ 0 0",
+            "READ 0",
+            "bytess",
         ] {
             assert!(all.contains(&line.to_string()), "{line:?}");
         }

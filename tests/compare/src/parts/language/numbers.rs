@@ -1,7 +1,7 @@
 //! Numbers of every form, good and bad, at every place that takes one.
 
 /// The places; each takes a number where the braces stand.
-const PLACES: [&str; 26] = [
+const PLACES: [&str; 33] = [
     "event {}",
     "turn {} 7",
     "turn 1 {}",
@@ -28,11 +28,19 @@ const PLACES: [&str; 26] = [
     "signal {}",
     "watch {}",
     "help {}",
+    // The last length that is accepted leaves an area for the lines after it.
+    "area {}",
+    "poke {} 5a",
+    "poke 0 {}",
+    "write {} 0",
+    "write 0 {}",
+    "read {}",
+    "bytes {}",
 ];
 
 /// Whole numbers about the ends of 8, 16, 32, 63 and 64 bits, and ones that would be small if
 /// they were cut to fewer bits.
-const WHOLE: [&str; 63] = [
+const WHOLE: [&str; 67] = [
     "0",
     "1",
     "2",
@@ -56,6 +64,9 @@ const WHOLE: [&str; 63] = [
     "256",
     "257",
     "300",
+    "2047",
+    "2048",
+    "2049",
     "32767",
     "32768",
     "65535",
@@ -73,6 +84,7 @@ const WHOLE: [&str; 63] = [
     "4294967551",
     "9223372036854775807",
     "9223372036854775808",
+    "18446744073709551614",
     "18446744073709551615",
     "18446744073709551616",
     "18446744073709551617",
@@ -213,8 +225,8 @@ mod tests {
 
     #[test]
     fn every_form_stands_at_every_place() {
-        let numbers = 63 + 72 + 16 + 4;
-        assert_eq!(lines().len(), 26 * numbers);
+        let numbers = 67 + 72 + 16 + 4;
+        assert_eq!(lines().len(), 33 * numbers);
     }
 
     #[test]
@@ -253,6 +265,21 @@ mod tests {
             "knob 1 -129",
             "knob 1 +1",
             "knob 1 1.0",
+        ] {
+            assert!(all.contains(&line.to_string()), "{line}");
+        }
+    }
+
+    #[test]
+    fn the_limits_of_the_area_are_tried() {
+        let all = lines();
+        for line in [
+            "area 2048",
+            "area 2049",
+            "poke 18446744073709551616 5a",
+            "write 4294967296 0",
+            "write 0 18446744073709551615",
+            "read 18446744073709551616",
         ] {
             assert!(all.contains(&line.to_string()), "{line}");
         }

@@ -7,7 +7,7 @@ use crate::script::Script;
 const STEPS: usize = 1_500;
 
 /// Lines that are refused, that are errors, and that have no answer.
-const OTHERS: [&str; 33] = [
+const OTHERS: [&str; 42] = [
     "event 1048576",
     "event 4294967295",
     "turn 4 0",
@@ -38,6 +38,15 @@ const OTHERS: [&str; 33] = [
     "watch on off",
     "help me",
     "panel 0",
+    "area 2049",
+    "area",
+    "poke 0 5",
+    "poke 24 5a",
+    "write 4294967295 0",
+    "write 0 6",
+    "write 0",
+    "read x",
+    "bytes 0",
     "",
     "# watch on",
     "\t\r",

@@ -19,10 +19,10 @@ by-cond P false x y p q = q refl
 
 -- ---- conjunctions: each half, and both together
 
-and-left : (a b : Bool) → (a && b) ≡ true → a ≡ true
+pub and-left : (a b : Bool) → (a && b) ≡ true → a ≡ true
 and-left a b h = and-eq-true-iff a b .0 h .0
 
-and-right : (a b : Bool) → (a && b) ≡ true → b ≡ true
+pub and-right : (a b : Bool) → (a && b) ≡ true → b ≡ true
 and-right a b h = and-eq-true-iff a b .0 h .1
 
 pub and-both : (a b : Bool) → a ≡ true → b ≡ true → (a && b) ≡ true
@@ -70,7 +70,7 @@ by-place P a b c d e f g (suc (suc (suc (suc (suc zero))))) h = f
 by-place P a b c d e f g (suc (suc (suc (suc (suc (suc zero)))))) h = g
 by-place P a b c d e f g (suc (suc (suc (suc (suc (suc (suc n))))))) h = absurd (omega arith)
 
-references-parts : (r : References) → referencesSound r ≡ true → ReferencesIn r
+pub references-parts : (r : References) → referencesSound r ≡ true → ReferencesIn r
 unfolding referencesSound
 references-parts r h = record {
   each = by-place (λ (n : ℕ). inRange n r ≡ true) (search (and-left, and-right) depth 8) (search (and-left, and-right) depth 8)
@@ -78,17 +78,17 @@ references-parts r h = record {
       (search (and-left, and-right) depth 8) (search (and-left, and-right) depth 8);
 }
 
-references-whole : (r : References) → ReferencesIn r → referencesSound r ≡ true
+pub references-whole : (r : References) → ReferencesIn r → referencesSound r ≡ true
 unfolding referencesSound
 references-whole r h =
     let at : (n : ℕ) → n ≤ 6 → inRange n r ≡ true = h .each in
     cc (at 0 (omega arith), at 1 (omega arith), at 2 (omega arith), at 3 (omega arith), at 4 (omega arith), at 5 (omega arith), at 6 (omega arith))
 
-channel-parts : (c : Channel) → channelSound c ≡ true → ChannelIn c
+pub channel-parts : (c : Channel) → channelSound c ≡ true → ChannelIn c
 unfolding channelSound
 channel-parts c h = search (and-left, and-right, references-parts)
 
-channel-whole : (c : Channel) → ChannelIn c → channelSound c ≡ true
+pub channel-whole : (c : Channel) → ChannelIn c → channelSound c ≡ true
 unfolding channelSound
 channel-whole c h = search (and-both, references-whole)
 
