@@ -21,7 +21,7 @@ use Rattle.numerals.specs.Digits.{digitOf, allDigits, isNumeral, numeral
 use Rattle.numerals.specs.Values.{before, behind, isDecimal, decimalAs}
 use Rattle.numerals.specs.Private.{wholeDecimal, fractionOf, pointedOf, negatedOf}
 use Rattle.numerals.proofs.Reading.{if-picked, read-is}
-use Rattle.numerals.proofs.Numerals.{numeral-is}
+use Rattle.numerals.proofs.Numerals.{wide-is}
 use Rattle.numerals.proofs.Division.{power-above, neg-round}
 
 -- ---- two runs of digits, one behind the other
@@ -76,7 +76,7 @@ fraction-is n (b ∷ w) h =
 pointed-is : (w v : List ℕ) →
     pointedOf w v ≡ cond (isNumeral 10 w && behindPoint v (numeralValue 10 (w ++ v))) (float (numeralValue 10 (w ++ v)) (length v)) Wrong
 pointed-is w v =
-    rw (numeral-is top w, if-picked (isNumeral 10 w && leb n top) n (λ x. fractionOf x v) Wrong, joined 10 w v) (go (isNumeral 10 w) (leb n top) refl)
+    rw (wide-is top w, if-picked (isNumeral 10 w && leb n top) n (λ x. fractionOf x v) Wrong, joined 10 w v) (go (isNumeral 10 w) (leb n top) refl)
   where
     n : ℕ
     n = numeralValue 10 w
@@ -102,7 +102,7 @@ module _ (w : List ℕ) (p : ℕ) (e : p ≡ placeOf 46 w) where
   unfolding decimalAs upTo
   no-point-is h =
       let l : length w ≤ suc p = omega arith in
-      rw (numeral-is top w, if-picked (isNumeral 10 w && leb (numeralValue 10 w) top) (numeralValue 10 w) (λ x. float x 0) Wrong)
+      rw (wide-is top w, if-picked (isNumeral 10 w && leb (numeralValue 10 w) top) (numeralValue 10 w) (λ x. float x 0) Wrong)
       (rw (← e, take-all p w h, drop-of-length-le w {i = suc p} l, append-nil w, le-ltb p (length w) h, limit (numeralValue 10 w)))
 
   pub point-is : p < length w → pointedOf (take p w) (take (length w - (p + 1)) (drop (p + 1) w)) ≡ decimalAs false w

@@ -3,13 +3,14 @@ use mathlib.Core.Path.{refl}
 use lib.Ieee.{ofBits, round}
 use Rattle.words.specs.Words.{upTo}
 use Rattle.numerals.specs.Digits.{allDigits, numeralValue, isNumeral}
-use Rattle.numerals.specs.Numbers.{numberIn, clicksIn}
+use Rattle.numerals.specs.Numbers.{numberIn, wideIn, clicksIn}
+use Rattle.numerals.specs.Pairs.{arePairs, pairBytes}
 use Rattle.numerals.specs.Integers.{signedAs}
 use Rattle.numerals.specs.Values.{patternOf, decimalAs}
-use Rattle.numerals.specs.Examples.{Numbers, Integers, Values}
+use Rattle.numerals.specs.Examples.{Numbers, Pairs, Integers, Values}
 
 pub numbers : Numbers
-unfolding allDigits numeralValue isNumeral numberIn clicksIn
+unfolding allDigits numeralValue isNumeral numberIn wideIn clicksIn
 numbers = record {
   zero-in-front = refl;
   above = refl;
@@ -21,7 +22,13 @@ numbers = record {
   most-back = refl;
   too-many-back = refl;
   none-back = refl;
+  largest = refl;
+  above-largest = refl;
 }
+
+pub pairs : Pairs
+unfolding allDigits isNumeral arePairs pairBytes
+pairs = record { two = refl; two-bytes = refl; odd = refl; letter = refl; empty = refl; within = refl; short = refl }
 
 pub integers : Integers
 unfolding allDigits numeralValue isNumeral signedAs

@@ -1,5 +1,6 @@
 pub mod Reading
 pub mod Numerals
+pub mod Pairs
 pub mod Signs
 pub mod Division
 pub mod Decimals

@@ -2,43 +2,52 @@
 use mathlib.Core.Path.{_≡_, refl, sym, ap, _∙_}
 use mathlib.Core.Bool.{Bool, true, false, _&&_, cond}
 use mathlib.Core.List.{List, [], _∷_}
-use Prim.Native.Nat.{ℕ, suc, _+_, _*_, _^_, _-_, _%_, _≤_, _<_}
+use Prim.Native.Nat.{ℕ, _+_, _*_, _^_, _-_, _%_, _≤_, _<_}
 use native.Mathlib.Nat.{zero-mul, zero-add}
 use native.Mathlib.Omega.{arith}
-use borrow.Author.Tests.{le-ltb}
 use lib.Dec.{leb}
 use lib.ListN.{length}
-use Rattle.numerals.specs.declared.Digits.{Digits}
-use Rattle.numerals.specs.declared.Digits.the-variants.{Are, Wrong}
+use Rattle.numerals.specs.declared.answers.Wide.{Wide}
+use Rattle.numerals.specs.declared.answers.Wide.the-variants.{Is as Are, Wrong}
 use Rattle.numerals.specs.declared.answers.Number.{Number}
 use Rattle.numerals.specs.declared.answers.Number.the-variants.{Is, Wrong as No}
 use Rattle.numerals.specs.Digits.{numeralValue, isNumeral}
 use Rattle.numerals.specs.Words.{hasMinus, unsigned}
-use Rattle.numerals.specs.Private.{ifDigits, atMost, numeralIn}
-use Rattle.numerals.specs.Numbers.{numberIn, backward, clicksIn}
+use Rattle.numerals.specs.Private.{ifDigits, atMost, readOn}
+use Rattle.numerals.specs.Numbers.{numberIn, wideIn, backward, clicksIn}
 use Rattle.numerals.proofs.Reading.{if-picked, read-is, at-most-tells}
 
 pub from-zero : (base n : ℕ) (w : List ℕ) → 0 * base ^ length w + n ≡ n
 from-zero base n w = ap (λ (k : ℕ). k + n) (zero-mul (base ^ length w)) ∙ zero-add n
 
-pub numeral-is : (most : ℕ) (w : List ℕ) → numeralIn most w ≡ atMost most (isNumeral 10 w) (numeralValue 10 w)
-unfolding numeralIn isNumeral
-numeral-is most [] = refl
-numeral-is most (b ∷ w) =
-    rw (le-ltb (suc (length w)) 1 (omega arith), read-is 10 most 0 (b ∷ w) (omega arith) (omega arith), from-zero 10 (numeralValue 10 (b ∷ w)) (b ∷ w))
+pub wide-is : (most : ℕ) (w : List ℕ) → wideIn most w ≡ atMost most (isNumeral 10 w) (numeralValue 10 w)
+unfolding wideIn
+wide-is most w = refl
 
-pub numeral-fits : (most : ℕ) (w : List ℕ) (n : ℕ) → numeralIn most w ≡ Are n → n ≤ most
-numeral-fits most w n e = at-most-tells most (isNumeral 10 w) (numeralValue 10 w) n (rw (numeral-is most w) at e)
+-- an empty word is no number
+pub empty-is : (most : ℕ) (w : List ℕ) → length w < 1 → wideIn most w ≡ Wrong
+unfolding wideIn isNumeral
+empty-is most [] h = refl
+empty-is most (b ∷ w) h = absurd (omega arith)
 
-pub number-is : (most : ℕ) (w : List ℕ) → numberIn most w ≡ ifDigits (numeralIn most w) Is No
+-- any other is what its digits are, read one after the other
+pub digits-are : (most : ℕ) (w : List ℕ) → 1 ≤ length w → wideIn most w ≡ readOn 10 most 0 w
+unfolding wideIn isNumeral
+digits-are most [] h = absurd (omega arith)
+digits-are most (b ∷ w) h = rw (read-is 10 most 0 (b ∷ w) (omega arith) (omega arith), from-zero 10 (numeralValue 10 (b ∷ w)) (b ∷ w))
+
+pub wide-fits : (most : ℕ) (w : List ℕ) (n : ℕ) → wideIn most w ≡ Are n → n ≤ most
+wide-fits most w n e = at-most-tells most (isNumeral 10 w) (numeralValue 10 w) n (rw (wide-is most w) at e)
+
+pub number-is : (most : ℕ) (w : List ℕ) → numberIn most w ≡ ifDigits (wideIn most w) Is No
 unfolding numberIn
-number-is most w = rw (numeral-is most w) (sym (if-picked (isNumeral 10 w && leb (numeralValue 10 w) most) (numeralValue 10 w) Is No))
+number-is most w = rw (wide-is most w) (sym (if-picked (isNumeral 10 w && leb (numeralValue 10 w) most) (numeralValue 10 w) Is No))
 
 pub number-fits : (most : ℕ) (w : List ℕ) (n : ℕ) → numberIn most w ≡ Is n → n ≤ most
-number-fits most w n e = go (numeralIn most w) refl (rw (number-is most w) at e)
+number-fits most w n e = go (wideIn most w) refl (rw (number-is most w) at e)
   where
-    go : (d : Digits) → numeralIn most w ≡ d → ifDigits d Is No ≡ Is n → n ≤ most
-    go (Are m) f e = let g : m ≡ n = cc in rw g at (numeral-fits most w m f)
+    go : (d : Wide) → wideIn most w ≡ d → ifDigits d Is No ≡ Is n → n ≤ most
+    go (Are m) f e = let g : m ≡ n = cc in rw g at (wide-fits most w m f)
     go Wrong f e = absurd (let z : _≡_ {A = ℕ} 0 1 = cc in omega arith)
 
 -- clicks modulo 256 fit a byte

@@ -2,16 +2,15 @@
 use mathlib.Core.Path.{_≡_, refl, sym}
 use mathlib.Core.Bool.{Bool, true, false, _&&_, cond}
 use mathlib.Core.List.{List, [], _∷_}
-use Prim.Native.Nat.{ℕ, suc, _^_, _<_}
+use Prim.Native.Nat.{ℕ, _^_, _<_}
 use native.Mathlib.Nat.{pow-succ', pow-zero}
 use native.Mathlib.Omega.{arith}
 use borrow.Author.Tests.{eq-eqb, ne-eqb, le-leb, ltb-true}
 use lib.Arith.{digits-lt}
-use lib.Dec.{leb, ltb, eqb}
+use lib.Dec.{ltb}
 use lib.ListN.{length, take, drop, length-drop}
 use lib.Ieee.{nan, inf, binary64, div, neg, ofBits}
-use Rattle.numerals.specs.declared.Digits.{Digits}
-use Rattle.numerals.specs.declared.Digits.the-variants.{Are, Wrong as None}
+use Rattle.numerals.specs.declared.answers.Wide.the-variants.{Is as Are, Wrong as None}
 use Rattle.numerals.specs.declared.answers.Value.{Value}
 use Rattle.numerals.specs.declared.answers.Value.the-variants.{Is, Wrong}
 use Rattle.numerals.specs.Digits.{digitOf, allDigits, numeralValue}

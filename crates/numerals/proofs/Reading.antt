@@ -8,8 +8,7 @@ use native.Mathlib.Omega.{arith}
 use borrow.Author.Tests.{le-leb, lt-leb, leb-true, leb-false}
 use lib.Dec.{leb, ltb}
 use lib.ListN.{length}
-use Rattle.numerals.specs.declared.Digits.{Digits}
-use Rattle.numerals.specs.declared.Digits.the-variants.{Are, Wrong}
+use Rattle.numerals.specs.declared.answers.Wide.the-variants.{Is as Are, Wrong}
 use Rattle.numerals.specs.Digits.{digitOf, allDigits, numeralValue}
 use Rattle.numerals.specs.Private.{ifDigits, atMost, readOn}
 
@@ -37,6 +36,19 @@ module _ (b : ℕ) where
   pub digit-high : 102 < b → 16 ≡ digitOf b
   digit-high h =
       rw (le-leb 48 b (omega arith), lt-leb b 57 (omega arith), le-leb 65 b (omega arith), lt-leb b 70 (omega arith), le-leb 97 b (omega arith), lt-leb b 102 h)
+
+-- a byte of a range counts from its first on
+in-range : (low high from x b : ℕ) → high ≤ from + 16 → x ≤ 16 → cond (leb low b && leb b high) (b - from) x ≤ 16
+in-range low high from x b h l = go (leb low b) (leb b high) refl
+  where
+    go : (t u : Bool) → leb b high ≡ u → cond (t && u) (b - from) x ≤ 16
+    go true true e = omega (arith, leb-true b high e)
+    go true false e = l
+    go false u e = l
+
+pub digit-fits : (b : ℕ) → digitOf b ≤ 16
+digit-fits b =
+    in-range 48 57 48 _ b (omega arith) (in-range 65 70 55 _ b (omega arith) (in-range 97 102 87 16 b (omega arith) (omega arith)))
 
 -- ---- all digits
 

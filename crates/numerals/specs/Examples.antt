@@ -1,13 +1,15 @@
 -- Words and what they are read as; proofs/Examples.antt computes it. Each comment gives the words; the bytes are their ASCII codes.
 use mathlib.Core.Path.{_≡_}
 use mathlib.Core.List.{[], _∷_}
-use mathlib.Core.Bool.{true}
+use mathlib.Core.Bool.{true, false}
 use lib.IntN.{pos, negsuc}
 use lib.Ieee.{nan, inf, fin, binary64, ofBits}
 use Rattle.numerals.specs.declared.answers.Number.the-variants.{Is as IsNumber, Wrong as NoNumber}
 use Rattle.numerals.specs.declared.answers.Signed.the-variants.{Is as IsSigned, Wrong as NoSigned}
 use Rattle.numerals.specs.declared.answers.Value.the-variants.{Is as IsValue, Wrong as NoValue}
-use Rattle.numerals.specs.Numbers.{numberIn, clicksIn}
+use Rattle.numerals.specs.declared.answers.Wide.{Wide}
+use Rattle.numerals.specs.Numbers.{numberIn, wideIn, clicksIn}
+use Rattle.numerals.specs.Pairs.{arePairs, pairBytes, laidOver}
 use Rattle.numerals.specs.Integers.{signedIn}
 use Rattle.numerals.specs.Values.{valueIn}
 
@@ -24,6 +26,21 @@ pub record Numbers : Type 0 where
   pub most-back : clicksIn (45 ∷ 49 ∷ 50 ∷ 56 ∷ []) ≡ IsNumber 128
   pub too-many-back : clicksIn (45 ∷ 49 ∷ 50 ∷ 57 ∷ []) ≡ NoNumber
   pub none-back : clicksIn (45 ∷ 48 ∷ []) ≡ IsNumber 0
+  -- of 64 bits: `18446744073709551615`, `18446744073709551616`
+  pub largest : wideIn 18446744073709551615 (49 ∷ 56 ∷ 52 ∷ 52 ∷ 54 ∷ 55 ∷ 52 ∷ 52 ∷ 48 ∷ 55 ∷ 51 ∷ 55 ∷ 48 ∷ 57 ∷ 53 ∷ 53 ∷ 49 ∷ 54 ∷ 49 ∷ 53 ∷ []) ≡ Wide.Is 18446744073709551615
+  pub above-largest : wideIn 18446744073709551615 (49 ∷ 56 ∷ 52 ∷ 52 ∷ 54 ∷ 55 ∷ 52 ∷ 52 ∷ 48 ∷ 55 ∷ 51 ∷ 55 ∷ 48 ∷ 57 ∷ 53 ∷ 53 ∷ 49 ∷ 54 ∷ 49 ∷ 54 ∷ []) ≡ Wide.Wrong
+
+pub record Pairs : Type 0 where
+  -- `0fF0`: two pairs, of digits of either case, and their bytes
+  pub two : arePairs (48 ∷ 102 ∷ 70 ∷ 48 ∷ []) ≡ true
+  pub two-bytes : pairBytes (48 ∷ 102 ∷ 70 ∷ 48 ∷ []) ≡ 15 ∷ 240 ∷ []
+  -- `0fF`, `0g`, the empty word
+  pub odd : arePairs (48 ∷ 102 ∷ 70 ∷ []) ≡ false
+  pub letter : arePairs (48 ∷ 103 ∷ []) ≡ false
+  pub empty : arePairs [] ≡ false
+  -- bytes 15 and 240 over a target of three bytes, and over one of one byte
+  pub within : laidOver (15 ∷ 240 ∷ []) (1 ∷ 2 ∷ 3 ∷ []) ≡ 15 ∷ 240 ∷ 3 ∷ []
+  pub short : laidOver (15 ∷ 240 ∷ []) (1 ∷ []) ≡ 15 ∷ []
 
 pub record Integers : Type 0 where
   -- `-2147483648`, `2147483648`, `-0`, `-`, `+1`

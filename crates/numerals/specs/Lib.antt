@@ -1,6 +1,7 @@
 pub mod Digits
 pub mod Words
 pub mod Numbers
+pub mod Pairs
 pub mod Integers
 pub mod Values
 pub mod Private

@@ -6,6 +6,12 @@ pub enum Number {
     Wrong,
 }
 
+// A number from 0 to 18,446,744,073,709,551,615.
+pub enum Wide {
+    Is(u64),
+    Wrong,
+}
+
 // A number from -2,147,483,648 to 2,147,483,647.
 pub enum Signed {
     Is(i32),

@@ -1,31 +1,28 @@
-// Numbers as a script writes them. A word is a slice of bytes, and is read as a number, as clicks, as a signed
-// number or as a float. specs/Numbers, Integers and Values say what is read as what, specs/Examples
-// gives words, and specs/Private has what only the private functions promise.
+// Numbers as a script writes them. A word is a slice of bytes, and is read as a number, as clicks, as pairs of
+// hexadecimal digits, as a signed number or as a float. specs/Numbers, Pairs, Integers and Values say what
+// is read as what, specs/Examples gives words, and specs/Private has what only the private functions promise.
 pub mod answers;
 
 use answers::Number;
 use answers::Signed;
 use answers::Value;
+use answers::Wide;
 ghost use mathlib.Core.Path.{_≡_};
-ghost use Prim.Native.Nat.{_<_, _≤_, _^_};
+ghost use Prim.Native.Nat.{_<_, _≤_, _^_, _/_};
+ghost use lib.ListN.{length, getD};
 ghost use mathlib.Core.Bool.{true, false};
 ghost use lib.IntN.{pos, negℤ};
 ghost use lib.Ieee.{binary64, round};
-ghost use Rattle.numerals.specs.Digits.{digitOf};
-ghost use Rattle.numerals.specs.Numbers.{numberIn, backward, clicksIn};
+ghost use Rattle.numerals.specs.Digits.{digitOf, allDigits};
+ghost use Rattle.numerals.specs.Numbers.{numberIn, wideIn, backward, clicksIn};
+ghost use Rattle.numerals.specs.Pairs.{arePairs, pairByte, pairBytes, laidOver};
 ghost use Rattle.numerals.specs.Integers.{signedAs, signedIn};
 ghost use Rattle.numerals.specs.Words.{hasMinus, unsigned};
 ghost use Rattle.numerals.specs.Values.{nameOf, patternOf, decimalAs, firstOf, valueIn};
-ghost use Rattle.numerals.specs.Private.{step, readOn, numeralIn, wholeDecimal, fractionOf, pointedOf, negatedOf};
+ghost use Rattle.numerals.specs.Private.{step, readOn, wholeDecimal, fractionOf, pointedOf, negatedOf};
 
 // The largest number of 15 digits.
 const LARGEST: u64 = 999_999_999_999_999;
-
-// The number that digits stand for; wrong where a byte is no digit, or the number too large.
-enum Digits {
-    Are(u64),
-    Wrong,
-}
 
 // What a byte counts as a digit, of either case; 16 where it is none. '0' is 48, 'A' 65 and 'a' 97.
 fn digit(b: u8) -> u64
@@ -40,26 +37,26 @@ fn digit(b: u8) -> u64
 }
 
 // The number v with one digit more behind it, of at most `most`.
-fn one_more(base: u64, v: u64, b: u8, most: u64) -> Digits
+fn one_more(base: u64, v: u64, b: u8, most: u64) -> Wide
     requires { ⌜ 0 < base ⌝ }
     ensures { λ res. ⌜ res ≡ step base most v b ⌝ }
 {
     let d = digit(b);
     if base <= d {
-        return Digits::Wrong;
+        return Wide::Wrong;
     }
     if most / base < v {
-        return Digits::Wrong;
+        return Wide::Wrong;
     }
     let tens = v * base;
     if most - tens < d {
-        return Digits::Wrong;
+        return Wide::Wrong;
     }
-    Digits::Are(tens + d)
+    Wide::Is(tens + d)
 }
 
 // The number `start` with the digits w behind it, of at most `most`.
-fn digits_from(base: u64, start: u64, w: &[u8], most: u64) -> Digits
+fn digits_from(base: u64, start: u64, w: &[u8], most: u64) -> Wide
     requires { ⌜ 0 < base ⌝ }
     ensures { λ res. ⌜ res ≡ readOn base most start (now (w .entry)) ⌝ }
 {
@@ -67,36 +64,93 @@ fn digits_from(base: u64, start: u64, w: &[u8], most: u64) -> Digits
     let mut i = 0;
     while i < w.len() {
         let next = one_more(base, v, w[i], most);
-        let Digits::Are(n) = next else {
-            return Digits::Wrong;
+        let Wide::Is(n) = next else {
+            return Wide::Wrong;
         };
         v = n;
         i += 1;
     }
-    Digits::Are(v)
+    Wide::Is(v)
 }
 
-// One or more digits and nothing else, of a number of at most `most`.
-fn numeral(w: &[u8], most: u64) -> Digits
-    ensures { λ res. ⌜ res ≡ numeralIn most (now (w .entry)) ⌝ }
+// A number of at most `most`, which 64 bits hold: one or more digits and nothing else.
+pub fn wide_number(w: &[u8], most: u64) -> Wide
+    ensures { λ res. ⌜ res ≡ wideIn most (now (w .entry)) ⌝ }
 {
     if w.len() < 1 {
-        return Digits::Wrong;
+        return Wide::Wrong;
     }
     digits_from(10, 0, w, most)
 }
 
-// A number of at most `most`.
+// A number of at most `most`, which 32 bits hold.
 pub fn number(w: &[u8], most: u32) -> Number
     ensures { λ res. ⌜ res ≡ numberIn most (now (w .entry)) ⌝ }
 {
-    let found = numeral(w, most as u64);
+    let found = wide_number(w, most as u64);
     match found {
-        Digits::Are(n) => {
+        Wide::Is(n) => {
             let small = n as u32;
             Number::Is(small)
         }
-        Digits::Wrong => Number::Wrong,
+        Wide::Wrong => Number::Wrong,
+    }
+}
+
+// Whether every byte is a hexadecimal digit.
+fn all_hexadecimal(w: &[u8]) -> bool
+    ensures { λ res. ⌜ res ≡ allDigits 16 (now (w .entry)) ⌝ }
+{
+    let mut i = 0;
+    while i < w.len() {
+        if 16 <= digit(w[i]) {
+            return false;
+        }
+        i += 1;
+    }
+    true
+}
+
+// Whether a word is one or more pairs of hexadecimal digits and nothing else.
+pub fn are_pairs(w: &[u8]) -> bool
+    ensures { λ res. ⌜ res ≡ arePairs (now (w .entry)) ⌝ }
+{
+    if w.len() == 0 {
+        return false;
+    }
+    if w.len() % 2 == 1 {
+        return false;
+    }
+    all_hexadecimal(w)
+}
+
+// The byte of two digits.
+fn pair(high: u8, low: u8) -> u8
+    ensures { λ res. ⌜ res ≡ pairByte high low ⌝ }
+{
+    ((digit(high) * 16 + digit(low)) % 256) as u8
+}
+
+// The byte of pair i.
+fn pair_at(w: &[u8], i: usize) -> u8
+    requires { ⌜ i < length (now w) / 2 ⌝ }
+    ensures { λ res. ⌜ res ≡ getD (pairBytes (now (w .entry))) i 0 ⌝ }
+{
+    let at = i * 2;
+    pair(w[at], w[at + 1])
+}
+
+// Writes the bytes of a word of pairs over the first bytes of the target, as many as both have.
+pub fn put_pairs(w: &[u8], target: &mut [u8])
+    ensures { λ res. ⌜ now (target .exit) ≡ laidOver (pairBytes (now (w .entry))) (now (target .entry)) ⌝ }
+{
+    let mut i = 0;
+    while i < target.len() {
+        if w.len() / 2 <= i {
+            return;
+        }
+        target[i] = pair_at(w, i);
+        i += 1;
     }
 }
 
@@ -213,8 +267,8 @@ fn pattern(w: &[u8]) -> Value
     }
     let found = digits_from(16, 0, &w[2..], 0xffff_ffff_ffff_ffff);
     match found {
-        Digits::Are(n) => Value::Is(number_forms::from_pattern(n)),
-        Digits::Wrong => Value::Wrong,
+        Wide::Is(n) => Value::Is(number_forms::from_pattern(n)),
+        Wide::Wrong => Value::Wrong,
     }
 }
 
@@ -246,10 +300,10 @@ fn quotient(n: u64, k: usize) -> f64
 fn whole(w: &[u8]) -> Value
     ensures { λ res. ⌜ res ≡ wholeDecimal (now (w .entry)) ⌝ }
 {
-    let found = numeral(w, LARGEST);
+    let found = wide_number(w, LARGEST);
     match found {
-        Digits::Are(n) => Value::Is(quotient(n, 0)),
-        Digits::Wrong => Value::Wrong,
+        Wide::Is(n) => Value::Is(quotient(n, 0)),
+        Wide::Wrong => Value::Wrong,
     }
 }
 
@@ -267,8 +321,8 @@ fn fraction(n: u64, w: &[u8]) -> Value
     }
     let found = digits_from(10, n, w, LARGEST);
     match found {
-        Digits::Are(m) => Value::Is(quotient(m, k)),
-        Digits::Wrong => Value::Wrong,
+        Wide::Is(m) => Value::Is(quotient(m, k)),
+        Wide::Wrong => Value::Wrong,
     }
 }
 
@@ -276,10 +330,10 @@ fn fraction(n: u64, w: &[u8]) -> Value
 fn pointed(w: &[u8], v: &[u8]) -> Value
     ensures { λ res. ⌜ res ≡ pointedOf (now (w .entry)) (now (v .entry)) ⌝ }
 {
-    let found = numeral(w, LARGEST);
+    let found = wide_number(w, LARGEST);
     match found {
-        Digits::Are(n) => fraction(n, v),
-        Digits::Wrong => Value::Wrong,
+        Wide::Is(n) => fraction(n, v),
+        Wide::Wrong => Value::Wrong,
     }
 }
 

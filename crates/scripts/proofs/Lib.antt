@@ -1,2 +1,3 @@
 pub mod Events
 pub mod Lines
+pub mod Laws

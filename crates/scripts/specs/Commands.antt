@@ -18,7 +18,9 @@ use Rattle.words.specs.Words.{upTo, wordOf, lookupOf}
 use Rattle.numerals.specs.declared.answers.Number.{Number}
 use Rattle.numerals.specs.declared.answers.Signed.{Signed}
 use Rattle.numerals.specs.declared.answers.Value.{Value}
-use Rattle.numerals.specs.Numbers.{numberIn, clicksIn}
+use Rattle.numerals.specs.declared.answers.Wide.{Wide}
+use Rattle.numerals.specs.Numbers.{numberIn, wideIn, clicksIn}
+use Rattle.numerals.specs.Pairs.{arePairs}
 use Rattle.numerals.specs.Integers.{signedIn}
 use Rattle.numerals.specs.Values.{valueIn}
 use Rattle.scripts.specs.declared.Command.{Command}
@@ -31,7 +33,7 @@ bytes nil = []
 bytes (c then s) = code c ∷ bytes s
 
 -- ---- what can be wrong with a line, by the numbers of the crate's constants: the place that the line went wrong in. `commandOf` never answers 1, a line that is too
--- long: that is for who reads the line
+-- long, nor 23, bytes that do not lie inside the bus area: those are for who reads the line and who holds the area
 
 abbrev pub noCommand : ℕ
 noCommand = 2
@@ -87,10 +89,19 @@ noSigned = 18
 abbrev pub noSet : ℕ
 noSet = 19
 
+abbrev pub noLength : ℕ
+noLength = 20
+
+abbrev pub noStart : ℕ
+noStart = 21
+
+abbrev pub noPairs : ℕ
+noPairs = 22
+
 -- ---- the names, in the order of their numbers from 0
 
 unfoldable pub commandNames : List ℕ
-commandNames = bytes "event send refresh display pick turn knob reading press signal power-on bench panel help watch damage"
+commandNames = bytes "event send refresh display pick turn knob reading press signal power-on bench panel help watch damage area poke write read bytes"
 
 -- the events, which are switches and signals
 unfoldable pub eventNames : List ℕ
@@ -154,8 +165,12 @@ sideBy command n =
     (cond (eqb command 3) (Command.Display n)
     (Command.Pick n)))
 
+-- word 1 as a side, by its name or by a number
+unfoldable pub sideAt : List ℕ → Number
+sideAt text = namedIn sideNames 2 4294967295 (wordOf text 1)
+
 unfoldable pub withSide : ℕ → List ℕ → Command
-withSide command text = ifNumber (namedIn sideNames 2 4294967295 (wordOf text 1)) (λ n. endsAt text 2 (sideBy command n)) (Command.Wrong noSide)
+withSide command text = ifNumber (sideAt text) (λ n. endsAt text 2 (sideBy command n)) (Command.Wrong noSide)
 
 -- a knob by its name, or by a number of at most `most`
 unfoldable pub knobAt : List ℕ → ℕ → Number
@@ -318,6 +333,38 @@ damageBy what text =
     (cond (eqb what 5) (damagePf text)
     (Command.Wrong noDamage)))
 
+-- ---- the bus area
+
+-- area LENGTH
+unfoldable pub areaOf : List ℕ → Command
+areaOf text = ifNumber (numberAt text 1 2048) (λ n. endsAt text 2 (Command.Area n)) (Command.Wrong noLength)
+
+-- word n as a place in the area, of 64 bits
+unfoldable pub startAt : List ℕ → ℕ → Wide
+startAt text n = wideIn 18446744073709551615 (wordOf text n)
+
+abbrev pub ifStart : Wide → (ℕ → Command) → Command
+ifStart (Wide.Is start) ask = ask start
+ifStart Wide.Wrong ask = Command.Wrong noStart
+
+-- poke START HEX
+unfoldable pub pokeBy : ℕ → List ℕ → Command
+pokeBy start text = cond (arePairs (wordOf text 2)) (endsAt text 3 (Command.Poke start)) (Command.Wrong noPairs)
+
+unfoldable pub pokeOf : List ℕ → Command
+pokeOf text = ifStart (startAt text 1) (λ start. pokeBy start text)
+
+-- write SIDE START
+unfoldable pub writeBy : ℕ → List ℕ → Command
+writeBy side text = ifStart (startAt text 2) (λ start. endsAt text 3 (Command.Write side start))
+
+unfoldable pub writeOf : List ℕ → Command
+writeOf text = ifNumber (sideAt text) (λ side. writeBy side text) (Command.Wrong noSide)
+
+-- read START
+unfoldable pub readOf : List ℕ → Command
+readOf text = ifStart (startAt text 1) (λ start. endsAt text 2 (Command.Read start))
+
 -- ---- commands
 
 -- by the number of a name of commandNames: the table of commands
@@ -336,12 +383,24 @@ commandBy command text =
     (cond (eqb command 13) (endsAt text 1 Command.Help)
     (cond (eqb command 14) (watchBy (lookupOf (wordOf text 1) watchNames 2) text)
     (cond (eqb command 15) (damageBy (lookupOf (wordOf text 1) damageNames 6) text)
-    (Command.Wrong noCommand)))))))))))))
+    (cond (eqb command 16) (areaOf text)
+    (cond (eqb command 17) (pokeOf text)
+    (cond (eqb command 18) (writeOf text)
+    (cond (eqb command 19) (readOf text)
+    (cond (eqb command 20) (endsAt text 1 Command.Bytes)
+    (Command.Wrong noCommand))))))))))))))))))
 
 -- a line without a word asks for nothing
 unfoldable pub commandIn : List ℕ → Command
-commandIn text = cond (absent text 0) Command.Blank (commandBy (lookupOf (wordOf text 0) commandNames 16) text)
+commandIn text = cond (absent text 0) Command.Blank (commandBy (lookupOf (wordOf text 0) commandNames 21) text)
 
 -- byte 35, '#', starts a comment
+abbrev pub textOf : List ℕ → List ℕ
+textOf line = upTo 35 line
+
 unfoldable pub commandOf : List ℕ → Command
-commandOf line = commandIn (upTo 35 line)
+commandOf line = commandIn (textOf line)
+
+-- the word of a poke line that holds its bytes, as pairs of digits
+unfoldable pub pairsOf : List ℕ → List ℕ
+pairsOf line = wordOf (textOf line) 2

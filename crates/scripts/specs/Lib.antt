@@ -1,2 +1,3 @@
 pub mod Commands
 pub mod Lines
+pub mod Laws

@@ -1,4 +1,5 @@
 // The commands of the console's scripts: what a line asks for.
+mod area;
 mod damage;
 mod places;
 
@@ -7,7 +8,7 @@ ghost use mathlib.Core.Bool.{true};
 ghost use Prim.Native.Nat.{_<_, _^_};
 ghost use Rattle.words.specs.Words.{wordOf, lookupOf};
 ghost use Rattle.scripts.specs.Commands.{endsAt, readingAt, ifReading, eventOf, sideBy, withSide, knobAt, turnBy, turnOf, clicksBy, clicksOf};
-ghost use Rattle.scripts.specs.Commands.{isSignal, isSwitch, eventNamed, eventIf, pressOf, signalOf, watchNames, watchBy, commandBy, commandIn, commandOf};
+ghost use Rattle.scripts.specs.Commands.{isSignal, isSwitch, eventNamed, eventIf, pressOf, signalOf, watchNames, watchBy, commandBy, commandIn, textOf, commandOf, pairsOf};
 use bench::Reading;
 use damage::damage;
 use modes::ModeSet;
@@ -17,6 +18,7 @@ use places::ends_at;
 use places::name_or_number;
 use places::number_at;
 use places::reading_at;
+use places::side_at;
 
 // A box is a part of the bench with a flight director, a set and references: 0 left, 1 right, 2 the
 // left inbox, 3 the right inbox. A reference goes by its place in the order of a display, from 0.
@@ -41,6 +43,13 @@ pub enum Command {
     DamageReading(Reading),
     DamageSet(u32, ModeSet),
     DamageReference(u32, u32, i32),
+    // what goes to the bus area and from it; a place there has 64 bits
+    Area(u32),
+    // the bytes stand in the line: `pairs_of`
+    Poke(u64),
+    Write(u32, u64),
+    Read(u64),
+    Bytes,
 }
 
 // What can be wrong with a line, by the place where it went wrong; the console has a text for each.
@@ -82,6 +91,14 @@ pub const NO_SIGNED: u32 = 18;
 
 pub const NO_SET: u32 = 19;
 
+pub const NO_LENGTH: u32 = 20;
+
+pub const NO_START: u32 = 21;
+
+pub const NO_PAIRS: u32 = 22;
+
+pub const NO_ROOM: u32 = 23;
+
 fn event(text: &[u8]) -> Command
     ensures { λ res. ⌜ res ≡ eventOf (now (text .entry)) ⌝ }
 {
@@ -107,7 +124,7 @@ fn side_by(command: usize, n: u32) -> Command
 fn of_side(command: usize, text: &[u8]) -> Command
     ensures { λ res. ⌜ res ≡ withSide command (now (text .entry)) ⌝ }
 {
-    let side = name_or_number(words::word(text, 1), b"left right", 2, 4_294_967_295);
+    let side = side_at(text);
     match side {
         Number::Is(n) => ends_at(text, 2, side_by(command, n)),
         Number::Wrong => Command::Wrong(NO_SIDE),
@@ -268,6 +285,11 @@ fn command_by(command: usize, text: &[u8]) -> Command
         13 => ends_at(text, 1, Command::Help),
         14 => watch(text),
         15 => damage(text),
+        16 => area::area(text),
+        17 => area::poke(text),
+        18 => area::write(text),
+        19 => area::read(text),
+        20 => ends_at(text, 1, Command::Bytes),
         _ => Command::Wrong(NO_COMMAND),
     }
 }
@@ -277,18 +299,32 @@ fn command_in(text: &[u8]) -> Command
 {
     let names =
         b"event send refresh display pick turn knob reading press signal power-on bench panel help \
-        watch damage";
+        watch damage area poke write read bytes";
     let name = words::word(text, 0);
     if name.len() == 0 {
         return Command::Blank;
     }
-    let command = words::lookup(name, names, 16);
+    let command = words::lookup(name, names, 21);
     command_by(command, text)
 }
 
-// The command of a line. What follows '#' is a comment.
+// What a line says. What follows '#' is a comment.
+fn text_of(line: &[u8]) -> &[u8]
+    ensures { λ res. ⌜ now res ≡ textOf (now (line .entry)) ⌝ }
+{
+    words::up_to(line, b'#')
+}
+
+// The command of a line.
 pub fn command_of(line: &[u8]) -> Command
     ensures { λ res. ⌜ res ≡ commandOf (now (line .entry)) ⌝ }
 {
-    command_in(words::up_to(line, b'#'))
+    command_in(text_of(line))
+}
+
+// The word of a line that holds the bytes of a `Poke`, as pairs of digits.
+pub fn pairs_of(line: &[u8]) -> &[u8]
+    ensures { λ res. ⌜ now res ≡ pairsOf (now (line .entry)) ⌝ }
+{
+    words::word(text_of(line), 2)
 }

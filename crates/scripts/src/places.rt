@@ -1,7 +1,7 @@
 // The words of a line in their places: as numbers, as names, as readings; and the end of a command.
 ghost use mathlib.Core.Path.{_≡_};
 ghost use Prim.Native.Nat.{_<_};
-ghost use Rattle.scripts.specs.Commands.{endsAt, numberAt, namedIn, kindBy, readingBy, readingAt};
+ghost use Rattle.scripts.specs.Commands.{endsAt, numberAt, namedIn, sideAt, kindBy, readingBy, readingAt};
 use crate::Command;
 use crate::NO_KIND;
 use crate::NO_VALUE;
@@ -45,6 +45,13 @@ pub(crate) fn name_or_number(w: &[u8], names: &[u8], total: usize, most: u32) ->
         return Number::Is(n as u32);
     }
     numerals::number(w, most)
+}
+
+// Word 1 as a side, by its name or by a number.
+pub(crate) fn side_at(text: &[u8]) -> Number
+    ensures { λ res. ⌜ res ≡ sideAt (now (text .entry)) ⌝ }
+{
+    name_or_number(words::word(text, 1), b"left right", 2, 4_294_967_295)
 }
 
 fn kind_by(kind: usize, x: f64) -> Reading

@@ -35,6 +35,16 @@ module _ {line : List ℕ} {n : ℕ} {room : List ℕ} (holds : Holds line n roo
           rw (lt-leb (length room) n (omega arith)) (ap commandOf (holds .kept ∙ take-all 256 line (omega arith)))
       go false e = let long = leb-false (length line) 255 e in rw (le-leb (length room) n (omega arith))
 
+  -- so it does what the line does, as far as nothing is done with the bytes of a line that is too long
+  pub line-does : {X : Type 0} (does : List ℕ → Command → X) → ((t u : List ℕ) → does t (Command.Wrong 1) ≡ does u (Command.Wrong 1)) →
+      does (take n room) (lineCommand n room) ≡ does line (asked line)
+  unfolding asked
+  line-does does same = ap (does (take n room)) line-command ∙ go (leb (length line) 255) refl
+    where
+      go : (t : Bool) → leb (length line) 255 ≡ t → does (take n room) (cond t (commandOf line) (Command.Wrong 1)) ≡ does line (cond t (commandOf line) (Command.Wrong 1))
+      go true e = let short = leb-true (length line) 255 e in ap (λ (text : List ℕ). does text (commandOf line)) (holds .kept ∙ take-all 256 line (omega arith))
+      go false e = same (take n room) line
+
   -- one byte more is kept, or the room is full
   pub one-more : (byte : ℕ) → Holds (line ++ (byte ∷ [])) (oneMore n room) (set room n byte)
   one-more byte = go (ltb n (length room)) refl

@@ -1,10 +1,10 @@
 -- What a command does to the bench and what it answers. The console's page, 'Script' and 'Words for people'. A call does and answers what its definition says, `damage` writes past all rules, and
--- what only shows leaves the bench as it is.
+-- what only shows leaves the bench as it is, and so does what is for the bus area.
 use mathlib.Core.Bool.{Bool, false}
 use Prim.Native.Nat.{ℕ, _+_, _%_}
 use Rattle.scripts.specs.declared.Command.{Command}
 use Rattle.scripts.specs.declared.Command.the-variants.{Blank, Wrong, Event, Send, Refresh, Display, Pick, Turn, Knob, Reading, PowerOn, Panel, Help, Watch}
-use Rattle.scripts.specs.declared.Command.the-variants.{DamagePf, DamageReading, DamageSet, DamageReference}
+use Rattle.scripts.specs.declared.Command.the-variants.{DamagePf, DamageReading, DamageSet, DamageReference, Area, Poke, Write, Read, Bytes}
 use Rattle.scripts.specs.declared.Command.the-variants.{Bench as WriteBench}
 use Rattle.bench.specs.declared.Bench.{Bench}
 use Rattle.bench.specs.Holds.{powerOn}
@@ -48,6 +48,11 @@ answerTo (DamagePf n) b = leaves (pfDamaged n b)
 answerTo (DamageReading r) b = leaves (received r b)
 answerTo (DamageSet n set) b = leaves (setDamaged n set b)
 answerTo (DamageReference n place x) b = leaves (referenceDamaged n place x b)
+answerTo (Area n) b = leaves b
+answerTo (Poke start) b = leaves b
+answerTo (Write side start) b = leaves b
+answerTo (Read start) b = leaves b
+answerTo Bytes b = leaves b
 
 -- the bench after a command
 abbrev pub benchAfter : Command → Bench → Bench
@@ -75,6 +80,11 @@ effectOf (DamagePf n) = Effect.Acts
 effectOf (DamageReading r) = Effect.Acts
 effectOf (DamageSet n set) = Effect.Acts
 effectOf (DamageReference n place x) = Effect.Acts
+effectOf (Area n) = Effect.Shows
+effectOf (Poke start) = Effect.Shows
+effectOf (Write side start) = Effect.Shows
+effectOf (Read start) = Effect.Shows
+effectOf Bytes = Effect.Shows
 
 abbrev pub watchAfter : Effect → Bool → Bool
 watchAfter Effect.Shows watch = watch

@@ -1,4 +1,4 @@
--- What a script means, from its bytes: its lines, what each asks for, and the bench that they leave. The console's page, 'Script'. How the bytes are read is no part of it.
+-- What a script means, from its bytes: its lines, what each asks for, and the bench and the bus area that they leave. The console's page, 'Script'. How the bytes are read is no part of it.
 use mathlib.Core.Bool.{Bool, false, cond}
 use mathlib.Core.List.{List, [], _∷_, _++_}
 use Prim.Native.Nat.{ℕ}
@@ -9,6 +9,7 @@ use Rattle.scripts.specs.declared.Command.{Command}
 use Rattle.bench.specs.declared.Bench.{Bench}
 use Rattle.bench.specs.Holds.{powerOn}
 use Rattle.sessions.specs.Acts.{benchAfter, effectOf, watchAfter}
+use Rattle.sessions.specs.Areas.{areaAfter}
 
 -- ---- lines
 
@@ -52,6 +53,15 @@ carried (line ∷ more) b = carried more (benchAfter (asked line) b)
 -- the same from power-on, where a script begins
 abbrev pub benchOf : List (List ℕ) → Bench
 benchOf lines = carried lines powerOn
+
+-- the bus area after lines, from a bench and an area
+abbrev pub carriedArea : List (List ℕ) → Bench → List ℕ → List ℕ
+carriedArea [] b area = area
+carriedArea (line ∷ more) b area = carriedArea more (benchAfter (asked line) b) (areaAfter line (asked line) b area)
+
+-- the same from power-on and an empty area
+abbrev pub areaOf : List (List ℕ) → List ℕ
+areaOf lines = carriedArea lines powerOn []
 
 -- the watch after lines, which is off where a script begins
 abbrev pub watched : List (List ℕ) → Bool → Bool

@@ -43,8 +43,8 @@ fn click(b: Bench, knob: u32, clicks: u8) -> Answer
     calls::turn(b, knob, count)
 }
 
-// What a command is for, beside its answer: it shows something, it can change the bench, or it turns the
-// watch on or off.
+// What a command is for, beside its answer: it shows something or is for the bus area, it can change the bench, or it
+// turns the watch on or off.
 pub(crate) enum Effect {
     Shows,
     Acts,
@@ -74,6 +74,11 @@ pub(crate) fn effect_of(c: Command) -> Effect
         Command::DamageReading(_) => Effect::Acts,
         Command::DamageSet(_, _) => Effect::Acts,
         Command::DamageReference(_, _, _) => Effect::Acts,
+        Command::Area(_) => Effect::Shows,
+        Command::Poke(_) => Effect::Shows,
+        Command::Write(_, _) => Effect::Shows,
+        Command::Read(_) => Effect::Shows,
+        Command::Bytes => Effect::Shows,
     }
 }
 
@@ -100,7 +105,8 @@ pub(crate) fn is_drawn(effect: Effect, watch: bool) -> bool
 }
 
 // The answer to a command: its refusal, the event acted on or 32, and the bench. What only shows
-// leaves the bench, and is asked for where its line is written.
+// leaves the bench, and is asked for where its line is written. So do the commands of the bus area, which the
+// bench takes no part in.
 pub(crate) fn answer_to(b: Bench, c: Command) -> EventAnswer
     ensures { λ res. ⌜ res ≡ answerTo c b ⌝ }
 {
@@ -124,5 +130,10 @@ pub(crate) fn answer_to(b: Bench, c: Command) -> EventAnswer
         Command::DamageReading(r) => bench_alone(damage_reading(b, r)),
         Command::DamageSet(n, set) => bench_alone(damage_set(b, n, set)),
         Command::DamageReference(n, place, x) => bench_alone(damage_reference(b, n, place, x)),
+        Command::Area(_) => bench_alone(b),
+        Command::Poke(_) => bench_alone(b),
+        Command::Write(_, _) => bench_alone(b),
+        Command::Read(_) => bench_alone(b),
+        Command::Bytes => bench_alone(b),
     }
 }

@@ -10,7 +10,7 @@ use lib.ListN.{length, drop, getD, drop-of-length-le}
 use lib.Seq.{drop-cons}
 use borrow.Author.Needs.{needs}
 use Rattle.numerals.specs.Private.{ifDigits, step, readOn}
-use Rattle.numerals.specs.declared.Digits.the-variants.{Are, Wrong}
+use Rattle.numerals.specs.declared.answers.Wide.the-variants.{Is as Are, Wrong}
 use Rattle.numerals.proofs.digits_from.Statement.{statement}
 use Rattle.numerals.proofs.digits_from.Tie as tie
 

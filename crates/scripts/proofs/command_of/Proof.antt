@@ -9,4 +9,4 @@ unfolding commandOf
 command-of-spec =
     tie.close (tie.spec
     (λ c κs. search needs) (λ c κs. search needs)
-    (λ c. rw (c .command-in .ensures, c .before .up-to .ensures)))
+    (λ c. rw (c .command-in .ensures, c .before .text-of .ensures)))

@@ -1,5 +1,5 @@
 -- `sessions::acts::answer_to` meets its contract: each arm hands on the answer of its call, or the bench that it made.
--- The last nineteen needs are the arms, in the order of the commands. Assumes nothing.
+-- The last twenty-four needs are the arms, in the order of the commands. Assumes nothing.
 use mathlib.Core.Path.{_∙_, ap}
 use Rattle.sessions.specs.Acts.{eventless, leaves, answerTo}
 use borrow.Author.Needs.{needs}
@@ -59,6 +59,16 @@ answer-to-spec =
     (λ c. search needs)
     (λ c κs. search needs)
     (λ c κs. search needs)
+    (λ c. search needs)
+    (λ c κs. search needs)
+    (λ c. search needs)
+    (λ c κs. search needs)
+    (λ c. search needs)
+    (λ c κs. search needs)
+    (λ c. search needs)
+    (λ c κs. search needs)
+    (λ c. search needs)
+    (λ c κs. search needs)
     (λ c. rw (c .before .enum-told .given .1) (c .bench-alone .ensures))
     (λ c. rw (c .before .enum-told2 .given .1) (c .bench-alone2 .ensures))
     (λ c. rw (c .before .before .c .given .1) (c .event .ensures))
@@ -77,4 +87,9 @@ answer-to-spec =
     (λ c. rw (c .before .before .before .c7 .given .1) (c .bench-alone10 .ensures ∙ ap leaves (c .before .damage-pf .ensures)))
     (λ c. rw (c .before .before .before .c8 .given .1) (c .bench-alone11 .ensures ∙ ap leaves (c .before .damage-reading .ensures)))
     (λ c. rw (c .before .before .before .c9 .given .1) (c .bench-alone12 .ensures ∙ ap leaves (c .before .damage-set .ensures)))
-    (λ c. rw (c .before .before .before .c10 .given .1) (c .bench-alone13 .ensures ∙ ap leaves (c .before .damage-reference .ensures) ∙ search needs)))
+    (λ c. rw (c .before .before .before .c10 .given .1) (c .bench-alone13 .ensures ∙ ap leaves (c .before .damage-reference .ensures) ∙ search needs))
+    (λ c. rw (c .before .enum-told10 .given .1) (c .bench-alone14 .ensures))
+    (λ c. rw (c .before .enum-told11 .given .1) (c .bench-alone15 .ensures))
+    (λ c. rw (c .before .enum-told12 .given .1) (c .bench-alone16 .ensures))
+    (λ c. rw (c .before .enum-told13 .given .1) (c .bench-alone17 .ensures))
+    (λ c. rw (c .before .enum-told14 .given .1) (c .bench-alone18 .ensures)))
