@@ -16,7 +16,7 @@ use Rattle.modes.proofs.Finite.{at}
 use Rattle.modes.proofs.Every.{verticals, at-modes, at-sets, same-modes, agree-number}
 use Rattle.codes.specs.declared.Coded.{Coded}
 use Rattle.codes.specs.Codes.{codedSets, sameSet, codeOf, setOf}
-use Rattle.codes.specs.Private.{firstCode, doublePlace, placeBeside, arithmetic, shownBy, setShown}
+use Rattle.codes.specs.Private.{firstCode, doublePlace, placeBeside, arithmetic, digitsOf, setShown}
 
 pub count : length codedSets ≡ 108
 unfolding codedSets coherent once cleared armed engaged
@@ -55,16 +55,16 @@ abbrev pub digitsSet : ℕ → ModeSet
 digitsSet x = setShown (x / 256) (x / 16 % 16) (x % 16)
 
 -- every set is the one that its laws and its armed sum show
-shown-back : (s : ModeSet) → digitsSet (shownBy s) ≡ s
+shown-back : (s : ModeSet) → digitsSet (digitsOf s) ≡ s
 unfolding armedSum armed engaged
-shown-back s = same-set (digitsSet (shownBy s)) s (at-sets (λ s. sameSet (digitsSet (shownBy s)) s) tt s)
+shown-back s = same-set (digitsSet (digitsOf s)) s (at-sets (λ s. sameSet (digitsSet (digitsOf s)) s) tt s)
 
-pick-shown : (ss : List ModeSet) (n : ℕ) → n < length ss → Coded.Set (digitsSet (getD (map shownBy ss) n 0)) ≡ pick Coded.NoSet (map Coded.Set ss) n
+pick-shown : (ss : List ModeSet) (n : ℕ) → n < length ss → Coded.Set (digitsSet (getD (map digitsOf ss) n 0)) ≡ pick Coded.NoSet (map Coded.Set ss) n
 pick-shown [] n h = absurd (not-suc-le-zero h)
 pick-shown (s ∷ ss) zero h = ap Coded.Set (shown-back s)
 pick-shown (s ∷ ss) (suc n) h = pick-shown ss n (le-of-suc-le-suc h)
 
 -- so the digits of a code show its set
-pub shown-at : (n : ℕ) → n < 108 → Coded.Set (digitsSet (getD (map shownBy codedSets) n 0)) ≡ setOf n
+pub shown-at : (n : ℕ) → n < 108 → Coded.Set (digitsSet (getD (map digitsOf codedSets) n 0)) ≡ setOf n
 unfolding setOf
 shown-at n h = pick-shown codedSets n (subst (λ (k : ℕ). n < k) (sym count) h)

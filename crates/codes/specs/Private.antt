@@ -60,8 +60,8 @@ arithmetic m = cond (coherent m) (firstCode (m .lateral) (m .armed) + placeBesid
 -- ---- from a code to its set, by two laws and an armed sum
 
 -- lateral law, vertical law and armed sum, as three digits of base 16
-abbrev pub shownBy : ModeSet → ℕ
-shownBy s = lateralLaw s * 256 + verticalLaw s * 16 + armedSum s
+abbrev pub digitsOf : ModeSet → ℕ
+digitsOf s = lateralLaw s * 256 + verticalLaw s * 16 + armedSum s
 
 abbrev pub modesShown : ℕ → ℕ → ℕ → Modes
 modesShown lateral vertical armed = record {

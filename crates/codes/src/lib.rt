@@ -5,7 +5,7 @@ ghost use Prim.Native.Nat.{_<_};
 ghost use lib.ListN.{getD};
 ghost use Rattle.codes.specs.Codes.{codedSets, codeOf, setOf};
 ghost use Rattle.codes.specs.Numbers.{lateralBy, armedBy, verticalBy};
-ghost use Rattle.codes.specs.Private.{byArmed, firstCode, singlePlace, doublePlace, placeBeside, shownBy, setShown};
+ghost use Rattle.codes.specs.Private.{byArmed, firstCode, singlePlace, doublePlace, placeBeside, digitsOf, setShown};
 use modes::ArmedLateral;
 use modes::Lateral;
 use modes::ModeSet;
@@ -283,7 +283,7 @@ fn set_shown(lateral: u64, vertical: u64, armed: u64) -> ModeSet
 // The entry of a code in the table.
 fn shown(code: usize) -> u64
     requires { ⌜ code < 108 ⌝ }
-    ensures { λ res. ⌜ res ≡ getD (map shownBy codedSets) code 0 ⌝ }
+    ensures { λ res. ⌜ res ≡ getD (map digitsOf codedSets) code 0 ⌝ }
 {
     SHOWN[code]
 }

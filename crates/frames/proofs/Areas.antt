@@ -13,7 +13,7 @@ use Rattle.bench.specs.declared.Channel.{Channel}
 use Rattle.bench.specs.declared.Bench.{Bench}
 use Rattle.bench.specs.Parts.{box}
 use Rattle.bench.specs.Sound.{sound}
-use Rattle.frames.specs.Frames.{frameOf, fits, laid, writeRefusal, written}
+use Rattle.frames.specs.Frames.{frameOf, fits, laid, writeRefusal, areaWritten}
 
 -- the part of an area from a start on, as a slice of it is taken
 abbrev pub from : ℕ → List ℕ → List ℕ
@@ -49,8 +49,8 @@ room start area h = go (fits start area) refl
     go false e = lt-ltb (length (from start area)) 19 (let k = leb-false (start + 19) (length area) e in let l = long in omega arith)
 
 -- a refused write leaves the area
-pub kept : (b : Bench) (side start : ℕ) (area : List ℕ) → (writeRefusal b side start area ≡ 0 → ⊥) → written b side start area ≡ area
-unfolding written
+pub kept : (b : Bench) (side start : ℕ) (area : List ℕ) → (writeRefusal b side start area ≡ 0 → ⊥) → areaWritten b side start area ≡ area
+unfolding areaWritten
 kept b side start area h = ap (λ (t : Bool). cond t (laid start (frameOf side (box side b)) area) area) (ne-eqb (writeRefusal b side start area) 0 h)
 
 module _ (b : Bench) (side start : ℕ) (area : List ℕ) (sound-b : sound b ≡ true) (is-side : leb side 1 ≡ true) where
@@ -71,8 +71,8 @@ module _ (b : Bench) (side start : ℕ) (area : List ℕ) (sound-b : sound b ≡
 
   pub area-is : start ≤ length area → (c : Channel) → c ≡ box side b → (last : List ℕ) →
       last ≡ cond (ltb (length (from start area)) 19) (from start area) (frameOf side c ++ drop 19 (from start area)) →
-      putMid start (length area - start) area last ≡ written b side start area
-  unfolding written
+      putMid start (length area - start) area last ≡ areaWritten b side start area
+  unfolding areaWritten
   area-is h c same last e =
       ap (λ (l : List ℕ). putMid start (length area - start) area l) (e ∙ ap (λ (t : Bool). cond t (from start area) (frameOf side c ++ drop 19 (from start area))) (room start area h))
       ∙ go (fits start area)

@@ -24,8 +24,8 @@ use Rattle.bench.specs.Ranges.{range, within, referenceRange}
 use Rattle.bench.specs.Sound.{referencesSound, channelSound, sound}
 use Rattle.bench.proofs.SoundParts.{and-left, and-right, and-both, ReferencesIn, ChannelIn, references-whole, channel-parts}
 use Rattle.frames.specs.declared.FrameRead.{FrameRead}
-use Rattle.frames.specs.Frames.{raised, high, low, frameOf, byteAt, oneByte, twoBytes, isMarked, referencesIn, refused, acceptedIf, withSet, fieldsRead, frameRead, readAt}
-use Rattle.frames.specs.Laws.{Bytes, accepted, ItsFrame}
+use Rattle.frames.specs.Frames.{raised, high, low, frameOf, byteAt, oneByte, twoBytes, isMarked, referencesIn, refused, acceptedIf, readWithSet, fieldsRead, frameRead, readAt}
+use Rattle.frames.specs.Laws.{Bytes, acceptedRead, ItsFrame}
 use Rattle.frames.proofs.Numbers.{Raised, in-range, raised-back, lowered-back, joined, kept-low, high-of, low-of}
 use Rattle.frames.proofs.Areas.{frame-length}
 
@@ -61,7 +61,7 @@ module _ (part rest rest′ : List ℕ) where
   unfolding isMarked
   same-mark = refl
 
-  same-set : (k : Coded) → withSet k (front rest) ≡ withSet k (front rest′)
+  same-set : (k : Coded) → readWithSet k (front rest) ≡ readWithSet k (front rest′)
   unfolding referencesIn
   same-set (Coded.Set s) = refl
   same-set Coded.NoSet = refl
@@ -152,16 +152,16 @@ unfolding isMarked frameOf
 marked side c rest = refl
 
 -- the fields of a frame, from what is known of each
-fields-back : (side : ℕ) (c : Channel) (rest : List ℕ) → leb side 1 ≡ true → ChannelIn c → fieldsRead (frameOf side c ++ rest) ≡ accepted side c
+fields-back : (side : ℕ) (c : Channel) (rest : List ℕ) → leb side 1 ≡ true → ChannelIn c → fieldsRead (frameOf side c ++ rest) ≡ acceptedRead side c
 unfolding fieldsRead frameOf
 fields-back side c rest is-side ok =
     let part = frameOf side c ++ rest in
     let references = references-back side c rest (ok .references) in
     let in-ranges = ap referencesSound references ∙ references-whole (c .references) (ok .references) in
-    ap (λ (k : Coded). withSet k part) (code-laws .set-back (c .set) (subst T (sym (ok .set)) tt))
+    ap (λ (k : Coded). readWithSet k part) (code-laws .set-back (c .set) (subst T (sym (ok .set)) tt))
     ∙ (λ i. acceptedIf (is-side i && flag-le (c .fd) i && in-ranges i) side (record { fd = flag-back (c .fd) i; set = c .set; references = references i }))
 
-pub read-back : (side : ℕ) (c : Channel) (rest : List ℕ) → side ≤ 1 → T (channelSound c) → frameRead (frameOf side c ++ rest) ≡ accepted side c
+pub read-back : (side : ℕ) (c : Channel) (rest : List ℕ) → side ≤ 1 → T (channelSound c) → frameRead (frameOf side c ++ rest) ≡ acceptedRead side c
 read-back side c rest h t =
     let part = frameOf side c ++ rest in
     judged part (let l = length-append (frameOf side c) rest in let n = frame-length side c in omega arith)
@@ -182,7 +182,7 @@ pub record Shown (part : List ℕ) : Type 0 where
   pub set : ModeSet
   pub code : setOf (byteAt part 7) ≡ Coded.Set set
   pub ranges : inRanges part ≡ true
-  pub answer : frameRead part ≡ accepted (byteAt part 5) (channelOf part set)
+  pub answer : frameRead part ≡ acceptedRead (byteAt part 5) (channelOf part set)
 
 with-ranges : (part : List ℕ) (s : ModeSet) → 19 ≤ length part → isMarked part ≡ true → setOf (byteAt part 7) ≡ Coded.Set s →
     (t : Bool) → inRanges part ≡ t → acceptedIf t (byteAt part 5) (channelOf part s) .refusal ≡ 0 → Shown part
@@ -197,7 +197,7 @@ with-ranges part s l m k true t e = record {
   answer =
       judged part l
       ∙ ap (λ (u : Bool). cond u (fieldsRead part) (refused 8)) m
-      ∙ ap (λ (k : Coded). withSet k part) k
+      ∙ ap (λ (k : Coded). readWithSet k part) k
       ∙ ap (λ (t : Bool). acceptedIf t (byteAt part 5) (channelOf part s)) t;
 }
 
@@ -206,7 +206,7 @@ unfolding frameRead fieldsRead
 shown part e = go (ltb (length part) 19) (isMarked part) (setOf (byteAt part 7)) refl refl refl e
   where
     go : (t u : Bool) (k : Coded) → ltb (length part) 19 ≡ t → isMarked part ≡ u → setOf (byteAt part 7) ≡ k →
-        cond t (refused 7) (cond u (withSet k part) (refused 8)) .refusal ≡ 0 → Shown part
+        cond t (refused 7) (cond u (readWithSet k part) (refused 8)) .refusal ≡ 0 → Shown part
     go true u k p q r e = absurd (omega arith)
     go false false k p q r e = absurd (omega arith)
     go false true Coded.NoSet p q r e = absurd (omega arith)
@@ -280,7 +280,7 @@ unfolding channelSound
 one-frame part all e =
     let s = shown part e in
     let two = and-left _ (referencesSound (referencesIn part)) (s .ranges) in
-    let right : ItsFrame part (accepted (byteAt part 5) (channelOf part (s .set))) = record {
+    let right : ItsFrame part (acceptedRead (byteAt part 5) (channelOf part (s .set))) = record {
       side = leb-true (byteAt part 5) 1 (and-left (leb (byteAt part 5) 1) (leb (byteAt part 6) 1) two);
       sound =
           subst T (sym (and-both (coherentSet (s .set)) (referencesSound (referencesIn part)) (is-true (coherentSet (s .set)) (decoded (byteAt part 7) (s .set) (s .code) .0))
@@ -304,8 +304,8 @@ refused-read part h = go (ltb (length part) 19) (isMarked part) (setOf (byteAt p
     in-ranges s true h = absurd (h refl)
     in-ranges s false h = refl
 
-    go : (t u : Bool) (k : Coded) → (cond t (refused 7) (cond u (withSet k part) (refused 8)) .refusal ≡ 0 → ⊥) →
-        cond t (refused 7) (cond u (withSet k part) (refused 8)) ≡ refused (cond t (refused 7) (cond u (withSet k part) (refused 8)) .refusal)
+    go : (t u : Bool) (k : Coded) → (cond t (refused 7) (cond u (readWithSet k part) (refused 8)) .refusal ≡ 0 → ⊥) →
+        cond t (refused 7) (cond u (readWithSet k part) (refused 8)) ≡ refused (cond t (refused 7) (cond u (readWithSet k part) (refused 8)) .refusal)
     go true u k h = refl
     go false false k h = refl
     go false true Coded.NoSet h = refl

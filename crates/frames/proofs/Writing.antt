@@ -12,8 +12,8 @@ use Rattle.bench.specs.declared.Bench.{Bench}
 use Rattle.bench.specs.Parts.{box}
 use Rattle.bench.specs.Sound.{channelSound, sound}
 use Rattle.bench.proofs.SoundParts.{channel-whole, parts}
-use Rattle.frames.specs.Frames.{frameOf, fits, writeRefusal, laid, written, frameRead, readAt}
-use Rattle.frames.specs.Laws.{accepted}
+use Rattle.frames.specs.Frames.{frameOf, fits, writeRefusal, laid, areaWritten, frameRead, readAt}
+use Rattle.frames.specs.Laws.{acceptedRead}
 use Rattle.frames.proofs.Areas.{frame-length, kept}
 use Rattle.frames.proofs.Reading.{read-back}
 
@@ -71,8 +71,8 @@ module _ (bytes : List ℕ) (start : ℕ) (area : List ℕ) (h : start + length 
 
 -- a law of the area after a write, where it is refused and where it is accepted
 by-write : (P : List ℕ → Type 0) (b : Bench) (side start : ℕ) (area : List ℕ) → P area →
-    (Accepted b side start area → P (laid start (frameOf side (box side b)) area)) → P (written b side start area)
-unfolding written
+    (Accepted b side start area → P (laid start (frameOf side (box side b)) area)) → P (areaWritten b side start area)
+unfolding areaWritten
 by-write P b side start area p q = go (writeRefusal b side start area) refl
   where
     go : (n : ℕ) → writeRefusal b side start area ≡ n → P (cond (eqb n 0) (laid start (frameOf side (box side b)) area) area)
@@ -83,11 +83,11 @@ by-write P b side start area p q = go (writeRefusal b side start area) refl
 frame-room : {b : Bench} {side start : ℕ} {area : List ℕ} → Accepted b side start area → start + length (frameOf side (box side b)) ≤ length area
 frame-room {b} {side} {start} {area} a = subst (λ (n : ℕ). start + n ≤ length area) (sym (frame-length side (box side b))) (a .room)
 
-written-accepted : (b : Bench) (side start : ℕ) (area : List ℕ) → Accepted b side start area → written b side start area ≡ laid start (frameOf side (box side b)) area
-unfolding written
+written-accepted : (b : Bench) (side start : ℕ) (area : List ℕ) → Accepted b side start area → areaWritten b side start area ≡ laid start (frameOf side (box side b)) area
+unfolding areaWritten
 written-accepted b side start area a = ap (λ (n : ℕ). cond (eqb n 0) (laid start (frameOf side (box side b)) area) area) (write-accepted b side start area a)
 
-pub write-read : (b : Bench) (side start : ℕ) (area : List ℕ) → writeRefusal b side start area ≡ 0 → readAt start (written b side start area) ≡ accepted side (box side b)
+pub write-read : (b : Bench) (side start : ℕ) (area : List ℕ) → writeRefusal b side start area ≡ 0 → readAt start (areaWritten b side start area) ≡ acceptedRead side (box side b)
 unfolding readAt
 write-read b side start area e =
     let a = accepted-write b side start area e in
@@ -95,30 +95,30 @@ write-read b side start area e =
     ∙ ap frameRead (from-laid (frameOf side (box side b)) start area (frame-room a))
     ∙ read-back side (box side b) (drop (start + length (frameOf side (box side b))) area) (a .is-side) (side-sound b side (a .bench) (a .is-side))
 
-pub same-length : (b : Bench) (side start : ℕ) (area : List ℕ) → length (written b side start area) ≡ length area
+pub same-length : (b : Bench) (side start : ℕ) (area : List ℕ) → length (areaWritten b side start area) ≡ length area
 same-length b side start area =
     by-write (λ (l : List ℕ). length l ≡ length area) b side start area refl (λ a. length-laid (frameOf side (box side b)) start area (frame-room a))
 
-pub before : (b : Bench) (side start : ℕ) (area : List ℕ) → take start (written b side start area) ≡ take start area
+pub before : (b : Bench) (side start : ℕ) (area : List ℕ) → take start (areaWritten b side start area) ≡ take start area
 before b side start area =
     by-write (λ (l : List ℕ). take start l ≡ take start area) b side start area refl (λ a. take-laid (frameOf side (box side b)) start area (frame-room a))
 
-pub behind : (b : Bench) (side start : ℕ) (area : List ℕ) → drop (start + 19) (written b side start area) ≡ drop (start + 19) area
+pub behind : (b : Bench) (side start : ℕ) (area : List ℕ) → drop (start + 19) (areaWritten b side start area) ≡ drop (start + 19) area
 behind b side start area =
     by-write (λ (l : List ℕ). drop (start + 19) l ≡ drop (start + 19) area) b side start area refl
     (λ a.
     subst (λ (n : ℕ). drop (start + n) (laid start (frameOf side (box side b)) area) ≡ drop (start + n) area) (frame-length side (box side b))
     (drop-laid (frameOf side (box side b)) start area (frame-room a)))
 
-pub twice : (b : Bench) (side start : ℕ) (area : List ℕ) → written b side start (written b side start area) ≡ written b side start area
+pub twice : (b : Bench) (side start : ℕ) (area : List ℕ) → areaWritten b side start (areaWritten b side start area) ≡ areaWritten b side start area
 twice b side start area = go (writeRefusal b side start area) refl
   where
-    go : (n : ℕ) → writeRefusal b side start area ≡ n → written b side start (written b side start area) ≡ written b side start area
+    go : (n : ℕ) → writeRefusal b side start area ≡ n → areaWritten b side start (areaWritten b side start area) ≡ areaWritten b side start area
     go zero e =
         let a = accepted-write b side start area e in
         let frame = frameOf side (box side b) in
         let first = written-accepted b side start area a in
         let again : Accepted b side start (laid start frame area) =
         record { bench = a .bench; is-side = a .is-side; room = let l = length-laid frame start area (frame-room a) in let r = a .room in omega arith } in
-        ap (written b side start) first ∙ written-accepted b side start (laid start frame area) again ∙ laid-twice frame start area (frame-room a) ∙ sym first
-    go (suc n) e = ap (written b side start) (kept b side start area (λ z. omega arith))
+        ap (areaWritten b side start) first ∙ written-accepted b side start (laid start frame area) again ∙ laid-twice frame start area (frame-room a) ∙ sym first
+    go (suc n) e = ap (areaWritten b side start) (kept b side start area (λ z. omega arith))

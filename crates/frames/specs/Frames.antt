@@ -64,8 +64,8 @@ abbrev pub laid : ℕ → List ℕ → List ℕ → List ℕ
 laid start bytes area = take start area ++ (bytes ++ drop (start + length bytes) area)
 
 -- the area after a write: of the side that is named, what a send of it would copy; refused, the area as it was
-unfoldable pub written : Bench → ℕ → ℕ → List ℕ → List ℕ
-written b side start area = cond (eqb (writeRefusal b side start area) 0) (laid start (frameOf side (box side b)) area) area
+unfoldable pub areaWritten : Bench → ℕ → ℕ → List ℕ → List ℕ
+areaWritten b side start area = cond (eqb (writeRefusal b side start area) 0) (laid start (frameOf side (box side b)) area) area
 
 -- ---- reading, from a part of the area that begins where the frame does
 
@@ -103,14 +103,14 @@ abbrev pub acceptedIf : Bool → ℕ → Channel → FrameRead
 acceptedIf inRange side c = cond inRange (record { refusal = 0; side = side; channel = c }) (refused 9)
 
 -- side and FD are 0 or 1, the code has a set, and each reference is in its range
-abbrev pub withSet : Coded → List ℕ → FrameRead
-withSet (Coded.Set s) part =
+abbrev pub readWithSet : Coded → List ℕ → FrameRead
+readWithSet (Coded.Set s) part =
     acceptedIf (leb (byteAt part 5) 1 && leb (byteAt part 6) 1 && referencesSound (referencesIn part)) (byteAt part 5)
     (record { fd = eqb (byteAt part 6) 1; set = s; references = referencesIn part })
-withSet Coded.NoSet part = refused 9
+readWithSet Coded.NoSet part = refused 9
 
 unfoldable pub fieldsRead : List ℕ → FrameRead
-fieldsRead part = withSet (setOf (byteAt part 7)) part
+fieldsRead part = readWithSet (setOf (byteAt part 7)) part
 
 -- 7, 8 and 9, tried in this order
 unfoldable pub frameRead : List ℕ → FrameRead

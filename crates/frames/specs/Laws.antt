@@ -18,14 +18,14 @@ use Rattle.bench.specs.Parts.{box}
 use Rattle.bench.specs.Holds.{powerOn}
 use Rattle.bench.specs.Sound.{channelSound}
 use Rattle.frames.specs.declared.FrameRead.{FrameRead}
-use Rattle.frames.specs.Frames.{frameOf, writeRefusal, written, acceptedIf, refused, frameRead, readAt}
+use Rattle.frames.specs.Frames.{frameOf, writeRefusal, areaWritten, acceptedIf, refused, frameRead, readAt}
 
 -- all of a list are bytes
 abbrev pub Bytes : List ℕ → Type 0
 Bytes part = (k : ℕ) → getD part k 0 < 256
 
-abbrev pub accepted : ℕ → Channel → FrameRead
-accepted side c = acceptedIf true side c
+abbrev pub acceptedRead : ℕ → Channel → FrameRead
+acceptedRead side c = acceptedIf true side c
 
 -- what an answer says is what a sound bench could hold, and the part begins with the frame that writing it makes
 pub record ItsFrame (part : List ℕ) (a : FrameRead) : Type 0 where
@@ -36,20 +36,20 @@ pub record ItsFrame (part : List ℕ) (a : FrameRead) : Type 0 where
 pub record FrameLaws : Type 0 where
   pub long : (side : ℕ) (c : Channel) → length (frameOf side c) ≡ 19
   -- a frame, whatever follows it, is read as what it was made of
-  pub read-back : (side : ℕ) (c : Channel) (rest : List ℕ) → side ≤ 1 → T (channelSound c) → frameRead (frameOf side c ++ rest) ≡ accepted side c
+  pub read-back : (side : ℕ) (c : Channel) (rest : List ℕ) → side ≤ 1 → T (channelSound c) → frameRead (frameOf side c ++ rest) ≡ acceptedRead side c
   -- so what was written is read at its start: the side, and what the bench holds of it
-  pub write-read : (b : Bench) (side start : ℕ) (area : List ℕ) → writeRefusal b side start area ≡ 0 → readAt start (written b side start area) ≡ accepted side (box side b)
+  pub write-read : (b : Bench) (side start : ℕ) (area : List ℕ) → writeRefusal b side start area ≡ 0 → readAt start (areaWritten b side start area) ≡ acceptedRead side (box side b)
   -- an accepted read comes from exactly the frame of its answer,
   pub one-frame : (part : List ℕ) → Bytes part → frameRead part .refusal ≡ 0 → ItsFrame part (frameRead part)
   -- so that equal answers come from equal bytes
   pub same-bytes : (p q : List ℕ) → Bytes p → Bytes q → frameRead p .refusal ≡ 0 → frameRead p ≡ frameRead q → take 19 p ≡ take 19 q
   -- a second write of the same changes nothing
-  pub twice : (b : Bench) (side start : ℕ) (area : List ℕ) → written b side start (written b side start area) ≡ written b side start area
+  pub twice : (b : Bench) (side start : ℕ) (area : List ℕ) → areaWritten b side start (areaWritten b side start area) ≡ areaWritten b side start area
   -- a write changes no byte before its start or behind the 19, and a refused one none at all
-  pub same-length : (b : Bench) (side start : ℕ) (area : List ℕ) → length (written b side start area) ≡ length area
-  pub before : (b : Bench) (side start : ℕ) (area : List ℕ) → take start (written b side start area) ≡ take start area
-  pub behind : (b : Bench) (side start : ℕ) (area : List ℕ) → drop (start + 19) (written b side start area) ≡ drop (start + 19) area
-  pub refused-write : (b : Bench) (side start : ℕ) (area : List ℕ) → (writeRefusal b side start area ≡ 0 → ⊥) → written b side start area ≡ area
+  pub same-length : (b : Bench) (side start : ℕ) (area : List ℕ) → length (areaWritten b side start area) ≡ length area
+  pub before : (b : Bench) (side start : ℕ) (area : List ℕ) → take start (areaWritten b side start area) ≡ take start area
+  pub behind : (b : Bench) (side start : ℕ) (area : List ℕ) → drop (start + 19) (areaWritten b side start area) ≡ drop (start + 19) area
+  pub refused-write : (b : Bench) (side start : ℕ) (area : List ℕ) → (writeRefusal b side start area ≡ 0 → ⊥) → areaWritten b side start area ≡ area
   -- a read looks at no byte but its 19: areas that agree there, also at different starts, are read alike
   pub local : (start start′ : ℕ) (area area′ : List ℕ) → take 19 (drop start area) ≡ take 19 (drop start′ area′) → readAt start area ≡ readAt start′ area′
   -- a refused read is zeros but for its number

@@ -9,7 +9,7 @@ ghost use lib.IntN.{pos, _-ℤ_};
 ghost use lib.ListN.{length, drop};
 ghost use lib.Signed.{mag};
 ghost use Rattle.bench.specs.Parts.{reference};
-ghost use Rattle.frames.specs.Frames.{raised, frameOf, writeRefusal, written, isMarked, oneByte, twoBytes, referencesIn, refused, acceptedIf, fieldsRead, frameRead, readAt};
+ghost use Rattle.frames.specs.Frames.{raised, frameOf, writeRefusal, areaWritten, isMarked, oneByte, twoBytes, referencesIn, refused, acceptedIf, fieldsRead, frameRead, readAt};
 use bench::Bench;
 use bench::Channel;
 use bench::References;
@@ -121,7 +121,7 @@ fn write_frame(part: &mut [u8], side: u32, c: Channel) -> u32
 
 // Writes the frame of a side of the bench into the area, from a start on, and answers its refusal or 0.
 pub fn write(b: Bench, side: u32, area: &mut [u8], start: usize) -> u32
-    ensures { λ res. ⌜ res ≡ writeRefusal b side start (now (area .entry)) ⌝ ∗ ⌜ now (area .exit) ≡ written b side start (now (area .entry)) ⌝ }
+    ensures { λ res. ⌜ res ≡ writeRefusal b side start (now (area .entry)) ⌝ ∗ ⌜ now (area .exit) ≡ areaWritten b side start (now (area .entry)) ⌝ }
 {
     if !bench::is_sound(b) {
         return UNSOUND;

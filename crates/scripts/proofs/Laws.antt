@@ -22,7 +22,7 @@ use Rattle.scripts.specs.declared.damage.Given.{Given}
 use Rattle.scripts.specs.Commands.{tooMany, noCommand, noWord, noSide, noKnobNumber, noCount, noKnob, noClicks, noSwitch, noSignal, noWatch, noDamage, noPf, noReference, noSigned, noSet, noLength, noStart, noPairs}
 use Rattle.scripts.specs.Commands.{commandNames, watchNames, damageNames, partNames, absent, endsAt, ifNumber, ifReading, ifSet, ifSigned, ifStart}
 use Rattle.scripts.specs.Commands.{numberAt, sideAt, knobAt, readingAt, startAt, figureAt, setBy, isSwitch, isSignal, eventNamed}
-use Rattle.scripts.specs.Commands.{eventOf, withSide, turnBy, turnOf, clicksBy, clicksOf, eventIf, watchBy, areaOf, pokeBy, pokeOf, writeBy, writeOf, readOf}
+use Rattle.scripts.specs.Commands.{eventOf, withSide, turnBy, turnOf, clicksBy, clicksOf, eventIf, watchBy, areaOfLength, pokeBy, pokeOf, writeBy, writeOf, readOf}
 use Rattle.scripts.specs.Commands.{damagePf, damageSet, damageReference, damagePart, damageBy, commandBy, commandIn, textOf, commandOf, pairsOf}
 use Rattle.scripts.specs.Laws.{LineLaws}
 
@@ -142,8 +142,8 @@ module _ (text : List ℕ) where
       (either (eqb what 5) (λ t. number (numberAt text 2 255) noPf (λ n e. ends 3 (plain (Command.DamagePf n) refl)))
       (wrong noDamage)))
 
-  area : Meets text (areaOf text)
-  unfolding areaOf
+  area : Meets text (areaOfLength text)
+  unfolding areaOfLength
   area = number (numberAt text 1 2048) noLength (λ n e. ends 2 (plain (Command.Area n) (le-leb n 2048 (number-fits 2048 (wordOf text 1) n e))))
 
   poke : Meets text (pokeOf text)

@@ -8,11 +8,10 @@ use lib.Dec.{eqb, leb, ltb}
 use lib.Ieee.{Float}
 use lib.IntN.{ℤ}
 use lib.ListN.{length}
-use Rattle.modes.specs.declared.Lateral.{Lateral}
-use Rattle.modes.specs.declared.ArmedLateral.{ArmedLateral}
 use Rattle.modes.specs.declared.Vertical.{Vertical}
 use Rattle.modes.specs.declared.Modes.{Modes}
 use Rattle.modes.specs.declared.ModeSet.{ModeSet}
+use Rattle.codes.specs.Numbers.{lateralBy, armedBy, verticalBy}
 use Rattle.bench.specs.declared.Reading.{Reading}
 use Rattle.words.specs.Words.{upTo, wordOf, lookupOf}
 use Rattle.numerals.specs.declared.answers.Number.{Number}
@@ -246,25 +245,6 @@ ifReading (Named.Wrong why) ask = Command.Wrong why
 
 -- ---- sets, by four numbers: lateral law, armed lateral mode, vertical law, VAPPR armed
 
-abbrev pub lateralBy : ℕ → Lateral
-lateralBy n =
-    cond (eqb n 1) Lateral.Roll (cond (eqb n 2) Lateral.Hdg (cond (eqb n 3) Lateral.Nav (cond (eqb n 4) Lateral.Lappr Lateral.Lga)))
-
--- 0 arms nothing, 1 NAV and any other number LAPPR
-abbrev pub armedBy : ℕ → ArmedLateral
-armedBy n = cond (eqb n 0) ArmedLateral.Neither (cond (eqb n 1) ArmedLateral.Nav ArmedLateral.Lappr)
-
-abbrev pub verticalBy : ℕ → Vertical
-verticalBy n =
-    cond (eqb n 1) Vertical.Pitch
-    (cond (eqb n 2) Vertical.Vs
-    (cond (eqb n 3) Vertical.Flc
-    (cond (eqb n 4) Vertical.Alt
-    (cond (eqb n 5) Vertical.AltselCapture
-    (cond (eqb n 6) Vertical.AltselTrack
-    (cond (eqb n 7) Vertical.Vappr
-    Vertical.Vga))))))
-
 -- a number from 0 to 4,294,967,295; 4,294,967,296 stands for a word that is none, and is in no range
 abbrev pub figureOf : Number → ℕ
 figureOf (Number.Is n) = n
@@ -336,8 +316,8 @@ damageBy what text =
 -- ---- the bus area
 
 -- area LENGTH
-unfoldable pub areaOf : List ℕ → Command
-areaOf text = ifNumber (numberAt text 1 2048) (λ n. endsAt text 2 (Command.Area n)) (Command.Wrong noLength)
+unfoldable pub areaOfLength : List ℕ → Command
+areaOfLength text = ifNumber (numberAt text 1 2048) (λ n. endsAt text 2 (Command.Area n)) (Command.Wrong noLength)
 
 -- word n as a place in the area, of 64 bits
 unfoldable pub startAt : List ℕ → ℕ → Wide
@@ -383,7 +363,7 @@ commandBy command text =
     (cond (eqb command 13) (endsAt text 1 Command.Help)
     (cond (eqb command 14) (watchBy (lookupOf (wordOf text 1) watchNames 2) text)
     (cond (eqb command 15) (damageBy (lookupOf (wordOf text 1) damageNames 6) text)
-    (cond (eqb command 16) (areaOf text)
+    (cond (eqb command 16) (areaOfLength text)
     (cond (eqb command 17) (pokeOf text)
     (cond (eqb command 18) (writeOf text)
     (cond (eqb command 19) (readOf text)

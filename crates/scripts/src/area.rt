@@ -1,6 +1,6 @@
 // The commands of the bus area: its length, bytes to be put there, and the frames that go in and out.
 ghost use mathlib.Core.Path.{_≡_};
-ghost use Rattle.scripts.specs.Commands.{startAt, areaOf, pokeBy, pokeOf, writeBy, writeOf, readOf};
+ghost use Rattle.scripts.specs.Commands.{startAt, areaOfLength, pokeBy, pokeOf, writeBy, writeOf, readOf};
 use crate::Command;
 use crate::NO_LENGTH;
 use crate::NO_PAIRS;
@@ -13,7 +13,7 @@ use numerals::answers::Number;
 use numerals::answers::Wide;
 
 pub(crate) fn area(text: &[u8]) -> Command
-    ensures { λ res. ⌜ res ≡ areaOf (now (text .entry)) ⌝ }
+    ensures { λ res. ⌜ res ≡ areaOfLength (now (text .entry)) ⌝ }
 {
     let length = number_at(text, 1, 2048);
     match length {

@@ -1,7 +1,7 @@
 // The `damage` commands: parts of the bench, and what is to be written there.
 ghost use mathlib.Core.Path.{_≡_};
 ghost use Rattle.words.specs.Words.{wordOf, lookupOf};
-ghost use Rattle.scripts.specs.Commands.{endsAt, readingAt, ifReading, lateralBy, armedBy, verticalBy, figureAt, givesOff, givesOn, modesBy, setBy};
+ghost use Rattle.scripts.specs.Commands.{endsAt, readingAt, ifReading, figureAt, givesOff, givesOn, modesBy, setBy};
 ghost use Rattle.scripts.specs.Commands.{damageNames, partNames, damagePf, damageSet, damageReference, damagePart, damageBy};
 use crate::Command;
 use crate::NO_DAMAGE;
@@ -13,11 +13,8 @@ use crate::places::Named;
 use crate::places::ends_at;
 use crate::places::number_at;
 use crate::places::reading_at;
-use modes::ArmedLateral;
-use modes::Lateral;
 use modes::ModeSet;
 use modes::Modes;
-use modes::Vertical;
 use numerals::answers::Number;
 use numerals::answers::Signed;
 
@@ -44,43 +41,6 @@ fn damage_pf(text: &[u8]) -> Command
     match number {
         Number::Is(n) => ends_at(text, 3, Command::DamagePf(n)),
         Number::Wrong => Command::Wrong(NO_PF),
-    }
-}
-
-fn lateral_by(n: u64) -> Lateral
-    ensures { λ res. ⌜ res ≡ lateralBy n ⌝ }
-{
-    match n {
-        1 => Lateral::Roll,
-        2 => Lateral::Hdg,
-        3 => Lateral::Nav,
-        4 => Lateral::Lappr,
-        _ => Lateral::Lga,
-    }
-}
-
-fn armed_by(n: u64) -> ArmedLateral
-    ensures { λ res. ⌜ res ≡ armedBy n ⌝ }
-{
-    match n {
-        0 => ArmedLateral::Neither,
-        1 => ArmedLateral::Nav,
-        _ => ArmedLateral::Lappr,
-    }
-}
-
-fn vertical_by(n: u64) -> Vertical
-    ensures { λ res. ⌜ res ≡ verticalBy n ⌝ }
-{
-    match n {
-        1 => Vertical::Pitch,
-        2 => Vertical::Vs,
-        3 => Vertical::Flc,
-        4 => Vertical::Alt,
-        5 => Vertical::AltselCapture,
-        6 => Vertical::AltselTrack,
-        7 => Vertical::Vappr,
-        _ => Vertical::Vga,
     }
 }
 
@@ -114,9 +74,9 @@ fn modes_by(lateral: u64, armed: u64, vertical: u64, vappr: u64) -> Modes
     ensures { λ res. ⌜ res ≡ modesBy lateral armed vertical vappr ⌝ }
 {
     Modes {
-        lateral: lateral_by(lateral),
-        armed: armed_by(armed),
-        vertical: vertical_by(vertical),
+        lateral: codes::lateral_by(lateral),
+        armed: codes::armed_by(armed),
+        vertical: codes::vertical_by(vertical),
         vappr_armed: vappr == 1,
     }
 }

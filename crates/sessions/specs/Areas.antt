@@ -11,7 +11,7 @@ use Rattle.scripts.specs.declared.Command.the-variants.{Blank, Wrong, Event, Se
 use Rattle.scripts.specs.declared.Command.the-variants.{DamagePf, DamageReading, DamageSet, DamageReference, Area, Poke, Write, Read, Bytes}
 use Rattle.scripts.specs.declared.Command.the-variants.{Bench as WriteBench}
 use Rattle.bench.specs.declared.Bench.{Bench}
-use Rattle.frames.specs.Frames.{laid, writeRefusal, written}
+use Rattle.frames.specs.Frames.{laid, writeRefusal, areaWritten}
 use Rattle.sessions.specs.declared.area.AreaAct.{AreaAct}
 use Rattle.sessions.specs.declared.area.AreaAct.the-variants.{Leaves, Clears, Pokes, Writes}
 use Rattle.sessions.specs.declared.area.AreaAnswer.{AreaAnswer}
@@ -61,7 +61,7 @@ abbrev pub areaBy : AreaAct → List ℕ → Bench → List ℕ → List ℕ
 areaBy Leaves line b area = area
 areaBy (Clears n) line b area = replicate n 0
 areaBy (Pokes start) line b area = poked start (pokedBytes line) area
-areaBy (Writes side start) line b area = written b side start area
+areaBy (Writes side start) line b area = areaWritten b side start area
 
 -- after a line that asks for a command, on the bench before it
 abbrev pub areaAfter : List ℕ → Command → Bench → List ℕ → List ℕ

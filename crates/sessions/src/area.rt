@@ -3,7 +3,7 @@ ghost use mathlib.Core.Path.{_≡_};
 ghost use Prim.Native.Nat.{_≤_, min};
 ghost use lib.ListN.{length, take, replicate};
 ghost use Rattle.numerals.specs.Pairs.{laidOver};
-ghost use Rattle.frames.specs.Frames.{writeRefusal, written};
+ghost use Rattle.frames.specs.Frames.{writeRefusal, areaWritten};
 ghost use Rattle.sessions.specs.Areas.{areaAct, pokedBytes, inside, poked, areaBy, areaAfter, heardBy, answerBy, areaAnswer};
 use bench::Bench;
 use scripts::Command;
@@ -117,7 +117,7 @@ fn poke_store(start: u64, line: &[u8], store: &mut [u8], n: usize)
 // Writes a frame into such an area, and answers its refusal or 0.
 fn write_store(b: Bench, side: u32, start: u64, store: &mut [u8], n: usize) -> u32
     requires { ⌜ n ≤ length (now store) ⌝ }
-    ensures { λ res. ⌜ res ≡ writeRefusal b side start (take n (now (store .entry))) ⌝ ∗ ⌜ now (store .exit) ≡ laidOver (written b side start (take n (now (store .entry)))) (now (store .entry)) ⌝ }
+    ensures { λ res. ⌜ res ≡ writeRefusal b side start (take n (now (store .entry))) ⌝ ∗ ⌜ now (store .exit) ≡ laidOver (areaWritten b side start (take n (now (store .entry)))) (now (store .entry)) ⌝ }
 {
     frames::write(b, side, &mut store[..n], start as usize)
 }

@@ -12,7 +12,7 @@ use Rattle.codes.specs.declared.Coded.{Coded}
 use Rattle.bench.specs.declared.References.{References}
 use Rattle.bench.specs.Sound.{referencesSound}
 use Rattle.frames.specs.declared.FrameRead.{FrameRead}
-use Rattle.frames.specs.Frames.{byteAt, acceptedIf, withSet, fieldsRead}
+use Rattle.frames.specs.Frames.{byteAt, acceptedIf, readWithSet, fieldsRead}
 use Rattle.frames.proofs.read_fields.Statement.{statement}
 use Rattle.frames.proofs.read_fields.Tie as tie
 
@@ -40,14 +40,14 @@ returns c =
     c .accepted-if .ensures
     ∙ ap (λ (t : Bool). acceptedOf part t (at-references .references-in .result) set) (at-sound .references-sound .ensures)
     ∙ ap (λ (r : References). acceptedOf part (referencesSound r) r set) same
-    ∙ ap (λ (k : Coded). withSet k part) (sym (sym (at-set .set-of .ensures) ∙ at-coded .coded .given .1))
+    ∙ ap (λ (k : Coded). readWithSet k part) (sym (sym (at-set .set-of .ensures) ∙ at-coded .coded .given .1))
 
 returns-2 : tie.Need-returns-2
 unfolding fieldsRead
 returns-2 c =
     let at-set = c .before .before .before in
     let s = at-set .before .before .before .before .before .before .before in
-    c .refused .ensures ∙ ap (λ (k : Coded). withSet k (now (s .args .part))) (sym (sym (at-set .set-of .ensures) ∙ c .before .enum-told .given .1))
+    c .refused .ensures ∙ ap (λ (k : Coded). readWithSet k (now (s .args .part))) (sym (sym (at-set .set-of .ensures) ∙ c .before .enum-told .given .1))
 
 pub read-fields-spec : {M : Type 1} → statement M
 read-fields-spec =

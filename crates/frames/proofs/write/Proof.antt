@@ -5,17 +5,17 @@ use native.Mathlib.Omega.{arith}
 use borrow.Author.Needs.{needs}
 use borrow.Author.Tests.{le-leb, lt-leb, not-true, not-false}
 use denote.Ref.{now}
-use Rattle.frames.specs.Frames.{writeRefusal, written}
+use Rattle.frames.specs.Frames.{writeRefusal, areaWritten}
 use Rattle.frames.proofs.Areas.{kept, past-refusal, refusal-is, area-is}
 use Rattle.frames.proofs.write.Statement.{statement}
 use Rattle.frames.proofs.write.Tie as tie
 
 returns : tie.Need-returns
-unfolding written writeRefusal
+unfolding areaWritten writeRefusal
 returns c = let unsound = sym (c .before .is-sound .ensures) ∙ not-true _ (c .if1 .taken) in (rw unsound, rw unsound)
 
 returns-2 : tie.Need-returns-2
-unfolding written writeRefusal
+unfolding areaWritten writeRefusal
 returns-2 c =
     let is-sound = sym (c .before .before .is-sound .ensures) ∙ not-false _ (c .before .if1 .left) in
     let no-side = lt-leb _ 1 (c .if2 .taken) in
@@ -28,7 +28,7 @@ returns-3 c =
     let is-sound = sym (at-sound .is-sound .ensures) ∙ not-false _ (c .before .before .if1 .left) in
     let is-side = le-leb (given .side) 1 (c .before .if2 .left) in
     let past = past-refusal (given .b) (given .side) (given .start) (now (given .area)) is-sound is-side (c .if3 .taken) in
-    (past, sym (kept (given .b) (given .side) (given .start) (now (given .area)) (λ accepted. omega arith)))
+    (past, sym (kept (given .b) (given .side) (given .start) (now (given .area)) (λ acceptedRead. omega arith)))
 
 returns-4 : tie.Need-returns-4
 returns-4 c =

@@ -1,7 +1,7 @@
 -- `scripts::area::area` meets its contract: the arms are those of `ifNumber`. Assumes nothing.
 use mathlib.Core.Path.{_≡_, sym}
 use denote.Ref.{now}
-use Rattle.scripts.specs.Commands.{numberAt, areaOf}
+use Rattle.scripts.specs.Commands.{numberAt, areaOfLength}
 use borrow.Author.Needs.{needs}
 use Rattle.scripts.proofs.area.area.Statement.{statement}
 use Rattle.scripts.proofs.area.area.Tie as tie
@@ -11,7 +11,7 @@ is : (c : tie.After-number-at) → numberAt (now (c .before .before .args .text)
 is c = sym (c .number-at .ensures)
 
 pub area-spec : {M : Type 1} → statement M
-unfolding areaOf
+unfolding areaOfLength
 area-spec =
     tie.close (tie.spec
     (λ c κs. search needs) (λ c. search needs) (λ c κs. search needs) (λ c. search needs)
