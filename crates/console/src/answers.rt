@@ -7,6 +7,7 @@ use crate::output::put_next_flag;
 use crate::output::put_next_float;
 use crate::output::put_next_signed;
 use crate::output::put_nth;
+use crate::output::put_pairs;
 use crate::output::put_text;
 use crate::panel::put_panel;
 use bench::Bench;
@@ -146,19 +147,44 @@ fn name_of(c: Command) -> usize {
         Command::Reading(_) => 3,
         Command::PowerOn => 4,
         Command::Watch(_) => 5,
+        Command::Area(_) => 7,
+        Command::Poke(_) => 8,
+        Command::Write(_, _) => 9,
         _ => 6,
     }
 }
 
 fn put_refusal(out: &mut [u8], waiting: usize, c: Command, refusal: u32) -> usize {
-    let names = b"send refresh turn reading power-on watch damage";
+    let names = b"send refresh turn reading power-on watch damage area poke write";
     let at = put_nth(out, waiting, names, name_of(c), 0);
     let end = put_next(out, at, refusal);
     put(out, end, b'\n')
 }
 
+// What a frame in the area says.
+fn put_read(out: &mut [u8], waiting: usize, area: &[u8], start: u64) -> usize {
+    let f = frames::read(area, start as usize);
+    let channel = f.channel;
+    let mut at = put_text(out, waiting, b"read");
+    at = put_next(out, at, f.refusal);
+    at = put_next(out, at, f.side);
+    at = put_channel(out, at, channel);
+    put(out, at, b'\n')
+}
+
+// The bytes of the area; an empty one has not even a space.
+fn put_bytes(out: &mut [u8], waiting: usize, area: &[u8]) -> usize {
+    let at = put_text(out, waiting, b"bytes");
+    if area.len() == 0 {
+        return put(out, at, b'\n');
+    }
+    let next = put(out, at, b' ');
+    let end = put_pairs(out, next, area);
+    put(out, end, b'\n')
+}
+
 // The answer to what was asked, in a line of its own or more.
-fn put_reply(out: &mut [u8], waiting: usize, t: Taken) -> usize {
+fn put_reply(out: &mut [u8], waiting: usize, t: Taken, area: &[u8; 2048]) -> usize {
     let session = t.session;
     let command = t.command;
     let b = session.bench;
@@ -171,13 +197,15 @@ fn put_reply(out: &mut [u8], waiting: usize, t: Taken) -> usize {
         Command::Bench => put_bench(out, waiting, b),
         Command::Panel => put_panel(out, waiting, b),
         Command::Help => put_help(out, waiting),
+        Command::Read(start) => put_read(out, waiting, sessions::area_of(session, area), start),
+        Command::Bytes => put_bytes(out, waiting, sessions::area_of(session, area)),
         _ => put_refusal(out, waiting, command, t.refusal),
     }
 }
 
 // The answer, and the drawing that follows it while the watch is on.
-pub(crate) fn put_answer(out: &mut [u8], waiting: usize, t: Taken) -> usize {
-    let at = put_reply(out, waiting, t);
+pub(crate) fn put_answer(out: &mut [u8], waiting: usize, t: Taken, area: &[u8; 2048]) -> usize {
+    let at = put_reply(out, waiting, t, area);
     if t.drawn {
         let session = t.session;
         let b = session.bench;

@@ -4,6 +4,29 @@ use crate::output::put;
 use crate::output::put_number;
 use crate::output::put_text;
 
+// In a command of the bus area.
+fn put_area_reason(out: &mut [u8], waiting: usize, wrong: u32) -> usize {
+    match wrong {
+        scripts::NO_LENGTH => put_text(out, waiting, b"LENGTH is a number from 0 to 2048"),
+        scripts::NO_START => put_text(
+            out,
+            waiting,
+            b"START is a number from 0 to 18446744073709551615",
+        ),
+        scripts::NO_PAIRS => put_text(
+            out,
+            waiting,
+            b"HEX is one or more pairs of hexadecimal digits, such as 0fF0",
+        ),
+        _ => put_text(
+            out,
+            waiting,
+            b"all bytes from START on have to lie inside the area; bytes shows it, and area LENGTH makes \
+a new one",
+        ),
+    }
+}
+
 // In a damage command.
 fn put_damage_reason(out: &mut [u8], waiting: usize, wrong: u32) -> usize {
     match wrong {
@@ -23,12 +46,13 @@ fn put_damage_reason(out: &mut [u8], waiting: usize, wrong: u32) -> usize {
             waiting,
             b"N is a number from -2147483648 to 2147483647",
         ),
-        _ => put_text(
+        scripts::NO_SET => put_text(
             out,
             waiting,
             b"a set is LATERAL 1 to 5, ARMED 0 to 2, VERTICAL 1 to 8, VAPPR-ARMED 0 or 1, or 0 and three \
 numbers for Off",
         ),
+        _ => put_area_reason(out, waiting, wrong),
     }
 }
 
@@ -76,7 +100,7 @@ fn put_reason(out: &mut [u8], waiting: usize, wrong: u32) -> usize {
             out,
             waiting,
             b"no such command; there are event, press, signal, turn, knob, reading, send, refresh, \
-display, pick, power-on, bench, panel, watch, help and damage",
+display, pick, power-on, bench, panel, watch, help, damage, area, poke, write, read and bytes",
         ),
         scripts::TOO_MANY => put_text(
             out,
@@ -131,6 +155,11 @@ watch on            draw them after each command that can change the bench; watc
 bench               all that the bench holds, in numbers\n\
 power-on            begin anew\n\
 damage ...          write into the bench past all rules: the manual, section 5\n\
+area LENGTH         a bus area of 0 to 2048 bytes, all 0, in place of the one before\n\
+poke START HEX      put bytes into it, as pairs of hexadecimal digits\n\
+write SIDE START    put the frame of a side into it: flight director, modes and targets, in 19 bytes\n\
+read START          what the frame there says, in numbers\n\
+bytes               all bytes of the area\n\
 help                this list\n",
     );
     put_text(out, at, b"end\n")

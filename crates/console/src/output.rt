@@ -117,3 +117,21 @@ pub(crate) fn put_next_float(out: &mut [u8], waiting: usize, x: f64) -> usize {
     let at = put_text(out, waiting, b" 0x");
     put_text(out, at, &digits[..k])
 }
+
+// A byte as two hexadecimal digits.
+fn put_pair(out: &mut [u8], waiting: usize, byte: u8) -> usize {
+    let mut digits = [0u8; 16];
+    let k = io::hex(byte as u64, 2, &mut digits);
+    put_text(out, waiting, &digits[..k])
+}
+
+// Bytes, each as two digits.
+pub(crate) fn put_pairs(out: &mut [u8], waiting: usize, bytes: &[u8]) -> usize {
+    let mut at = waiting;
+    let mut i = 0;
+    while i < bytes.len() {
+        at = put_pair(out, at, bytes[i]);
+        i += 1;
+    }
+    at
+}

@@ -17,8 +17,9 @@ use Rattle.replay.proofs.Coding.{coding}
 use Rattle.guidance.proofs.Picks.{guides, guides-from, refused-pick}
 use Rattle.words.proofs.Laws.{word-laws, example}
 use Rattle.numerals.proofs.Laws.{value-laws}
-use Rattle.numerals.proofs.Examples.{numbers, integers, values}
+use Rattle.numerals.proofs.Examples.{numbers, pairs, integers, values}
 use Rattle.scripts.proofs.Lines.{lines}
+use Rattle.scripts.proofs.Laws.{line-laws}
 use Rattle.sessions.proofs.Laws.{session-laws}
 use Rattle.promises.specs.Promises.{Promises}
 use Rattle.promises.proofs.Sends.{same-as-sent}
@@ -51,9 +52,11 @@ promises = record {
   word-laws = word-laws;
   word-example = example;
   number-examples = numbers;
+  pair-examples = pairs;
   integer-examples = integers;
   value-examples = values;
   value-laws = value-laws;
   script-lines = lines;
+  line-laws = line-laws;
   session-laws = session-laws;
 }

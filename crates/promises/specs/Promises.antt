@@ -27,8 +27,9 @@ use Rattle.replay.specs.Coded.{Coding}
 use Rattle.guidance.specs.Picker.{Guides, RefusedPick}
 use Rattle.words.specs.Laws.{WordLaws, Example}
 use Rattle.numerals.specs.Laws.{ValueLaws}
-use Rattle.numerals.specs.Examples.{Numbers, Integers, Values}
+use Rattle.numerals.specs.Examples.{Numbers, Pairs, Integers, Values}
 use Rattle.scripts.specs.Lines.{Lines}
+use Rattle.scripts.specs.Laws.{LineLaws}
 use Rattle.sessions.specs.Laws.{SessionLaws}
 use Rattle.promises.specs.Sends.{SameAsSent}
 
@@ -70,9 +71,11 @@ pub record Promises : Type 2 where
   pub word-laws : WordLaws
   pub word-example : Example
   pub number-examples : Numbers
+  pub pair-examples : Pairs
   pub integer-examples : Integers
   pub value-examples : Values
   pub value-laws : ValueLaws
   pub script-lines : Lines
-  -- a script's bytes leave the bench that its lines ask for
+  pub line-laws : LineLaws
+  -- a script's bytes leave the bench and the bus area that its lines ask for
   pub session-laws : SessionLaws

@@ -4,10 +4,10 @@ use Rattle.console.proofs.main.Statement.{statement}
 use Rattle.console.proofs.main.Tie as tie
 
 abbrev Inv-loop : tie.InvT-loop
-Inv-loop input₀ line₀ out₀ s₀ turns₀ input line out s turns = Unit {0}
+Inv-loop input₀ line₀ area₀ out₀ s₀ turns₀ input line area out s turns = Unit {0}
 
 abbrev μ-loop : tie.MeasureT-loop
-μ-loop input₀ line₀ out₀ s₀ turns₀ input line out s turns = turns
+μ-loop input₀ line₀ area₀ out₀ s₀ turns₀ input line area out s turns = turns
 
 pub main-spec : {M : Type 1} → statement M
 main-spec =
