@@ -1,7 +1,8 @@
 #!/usr/bin/env bash
 # The benchmark: calls a second of the proved library and of a baseline in Rust, over the same lists,
 # with their ratios, all measured in this run. It is no part of the gate. docs/PERFORMANCE.md says
-# how to read what it prints. An argument is the number of calls in a list.
+# how to read what it prints. The word frames as the first argument times the frames alone; the next
+# is the number of calls in a list.
 # It needs the Rattle kit (rt), gcc and cargo, and uses no network.
 set -eu
 cd "$(dirname "$0")/.."

@@ -83,7 +83,7 @@ pub(crate) fn fold_zeros(sum: u64) -> u64 {
 }
 
 // A side or an inbox. The two laws and the armed sum tell every set from every other.
-fn fold_channel(sum: u64, c: Channel) -> u64 {
+pub(crate) fn fold_channel(sum: u64, c: Channel) -> u64 {
     let set = c.set;
     let references = c.references;
     let lateral = modes::numbers::lateral_law(set);

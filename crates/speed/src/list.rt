@@ -26,7 +26,7 @@ pub(crate) fn kind(word: u64, left: u64, chosen: u64) -> u64
 }
 
 // One in 64 of the words gives an argument that is out of the usual.
-fn is_rare(word: u64) -> bool {
+pub(crate) fn is_rare(word: u64) -> bool {
     (word >> 8) % 64 == 0
 }
 
@@ -83,7 +83,7 @@ pub(crate) fn reading_kind(word: u64) -> u64
 }
 
 // low + whole + eighths / 8, which a float holds exactly.
-fn in_eighths(low: f64, whole: u32, eighths: u32) -> f64 {
+pub(crate) fn in_eighths(low: f64, whole: u32, eighths: u32) -> f64 {
     low + whole as f64 + eighths as f64 / 8.0
 }
 

@@ -1,8 +1,11 @@
 // Makes a pseudo-random list of calls on one bench from power-on, and writes a checksum of all the
-// answers and of the bench at the end. tests/baseline makes the same list and measures both.
+// answers and of the bench at the end; or a list of frames that are written, or read, in one bus area.
+// tests/baseline makes the same lists and measures both.
 //
-// Arguments, in decimal: a seed; how many calls; a kind of call, or 6 for a mixed list; and 1, or 0
-// to make the list and its sum without the calls, which is the time that the calls do not take.
+// Arguments, in decimal: a seed; how many calls; a kind of call, 6 for a mixed list, 7 for writes of
+// frames or 8 for reads; and 1, or 0 to make the list and its sum without the calls, which is the time
+// that the calls do not take.
+mod bus;
 mod checksum;
 mod list;
 
@@ -154,13 +157,22 @@ fn argument(i: usize) -> u64 {
     number_in(&text[..n])
 }
 
+// The checksum of a list of calls, or of frames.
+fn sum_of(seed: u64, calls: u64, chosen: u64, live: bool) -> u64 {
+    match chosen {
+        7 => bus::run_list(seed, calls, false, live),
+        8 => bus::run_list(seed, calls, true, live),
+        _ => run_list(seed, calls, chosen, live),
+    }
+}
+
 // Runs the list that the arguments name, and writes its checksum.
 fn main() {
     let seed = argument(1);
     let calls = argument(2);
     let chosen = argument(3);
     let live = argument(4);
-    let sum = run_list(seed, calls, chosen, live == 1);
+    let sum = sum_of(seed, calls, chosen, live == 1);
     io::print_decimal(STDOUT_FILENO, sum);
     io::write_all(STDOUT_FILENO, b"\n");
 }

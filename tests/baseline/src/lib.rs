@@ -4,9 +4,11 @@
 //! call: nothing remembers that a bench was sound.
 //!
 //! It shares no line with the library or with the second implementation. `list` makes the
-//! pseudo-random lists and the checksum by which the answers are compared.
+//! pseudo-random lists and the checksum by which the answers are compared, and `bus` those of frames.
 mod bench;
+pub mod bus;
 mod calls;
+pub mod frames;
 pub mod list;
 mod modes;
 mod tables;
@@ -14,4 +16,4 @@ mod tables;
 pub use bench::{Bench, Reading, HEADING, HELD, IAS, PITCH, PRESELECTED, ROLL, VERTICAL_SPEED};
 pub use calls::{display, event, reading, refresh, send, turn, Display};
 pub use modes::{code, Modes, OFF};
-pub use tables::{Shown, ON_SETS, SHOWN};
+pub use tables::{Shown, CODE, ON_SETS, SET, SETS, SHOWN};

@@ -1,10 +1,15 @@
 //! The lists of calls and their checksum, the same as those of the program `speed` of the crates.
+use crate::bus;
 use crate::tables::SHOWN;
 use crate::{display, event, reading, refresh, send, turn, Bench, Display, Reading};
 use std::hint::black_box;
 
+/// The kinds of the lists of frames that are written, and of those that are read.
+pub const WRITES: u64 = 7;
+pub const READS: u64 = 8;
+
 /// A list: its seed, its length, and the kind that seven of eight of its calls have, or 6 where each
-/// call has a kind of its own. Where `live` is false no call is made.
+/// call has a kind of its own, or a kind of frames. Where `live` is false no call is made.
 #[derive(Clone, Copy, Debug)]
 pub struct List {
     pub seed: u64,
@@ -15,14 +20,19 @@ pub struct List {
 
 /// The word after a word.
 #[inline]
-fn shuffled(word: u64) -> u64 {
+pub(crate) fn shuffled(word: u64) -> u64 {
     let a = word ^ (word << 13);
     let b = a ^ (a >> 7);
     b ^ (b << 17)
 }
 
+/// The first word of a seed.
+pub(crate) fn first(seed: u64) -> u64 {
+    (seed << 1) | 1
+}
+
 #[inline]
-fn fold(sum: u64, word: u64) -> u64 {
+pub(crate) fn fold(sum: u64, word: u64) -> u64 {
     shuffled(sum ^ word).wrapping_add(0x9e37_79b9_7f4a_7c15)
 }
 
@@ -36,7 +46,7 @@ fn kind(word: u64, left: u64, chosen: u64) -> u64 {
 }
 
 #[inline]
-fn is_rare(word: u64) -> bool {
+pub(crate) fn is_rare(word: u64) -> bool {
     (word >> 8) % 64 == 0
 }
 
@@ -92,7 +102,13 @@ fn value(kind: u64, word: u64) -> f64 {
         4 => (-92.0, 183),
         _ => (-2.0, 363),
     };
-    low + ((word >> 24) % span) as u32 as f64 + ((word >> 20) % 8) as u32 as f64 / 8.0
+    in_eighths(low, (word >> 24) % span, (word >> 20) % 8)
+}
+
+/// low + whole + eighths / 8.
+#[inline]
+pub(crate) fn in_eighths(low: f64, whole: u64, eighths: u64) -> f64 {
+    low + whole as u32 as f64 + eighths as u32 as f64 / 8.0
 }
 
 #[inline]
@@ -136,14 +152,20 @@ fn fold_display(sum: u64, refusal: u32, d: &Display) -> u64 {
     fold_references(fold(sum, laws ^ lights), &d.references)
 }
 
-fn fold_channel(sum: u64, b: &Bench, channel: usize) -> u64 {
-    let shown = SHOWN[b.sets[channel] as usize];
+#[inline]
+pub(crate) fn fold_answer(sum: u64, fd: bool, set: u8, references: &[i32]) -> u64 {
+    let shown = SHOWN[set as usize];
     let laws = u64::from(shown.lateral) ^ u64::from(shown.vertical) << 8;
-    let lights = u64::from(shown.armed) << 16 ^ u64::from(b.fds[channel]) << 40;
-    fold_references(fold(sum, laws ^ lights), &b.references[channel])
+    let lights = u64::from(shown.armed) << 16 ^ u64::from(fd) << 40;
+    fold_references(fold(sum, laws ^ lights), references)
 }
 
-fn fold_bench(sum: u64, b: &Bench) -> u64 {
+#[inline]
+pub(crate) fn fold_channel(sum: u64, b: &Bench, channel: usize) -> u64 {
+    fold_answer(sum, b.fds[channel], b.sets[channel], &b.references[channel])
+}
+
+pub(crate) fn fold_bench(sum: u64, b: &Bench) -> u64 {
     let shared = u64::from(b.pf) ^ u64::from(b.ap) << 32 ^ u64::from(b.overspeed) << 33;
     let counts = u64::from(u32::from_le_bytes(b.counts));
     let feed = fold(fold(sum, shared), counts);
@@ -219,7 +241,7 @@ fn step(b: &mut Bench, kind: u64, word: u64, sum: u64, live: bool) -> u64 {
 pub fn run_seen(list: List, mut seen: impl FnMut(&Bench)) -> u64 {
     let mut b = Bench::power_on();
     let mut sum = 0;
-    let mut word = (list.seed << 1) | 1;
+    let mut word = first(list.seed);
     for left in (1..=list.calls).rev() {
         let kind = kind(word, left, list.chosen);
         sum = step(black_box(&mut b), kind, word, sum ^ kind << 60, list.live);
@@ -229,7 +251,10 @@ pub fn run_seen(list: List, mut seen: impl FnMut(&Bench)) -> u64 {
     fold_bench(sum, &b)
 }
 
-/// Makes the calls of a list; answers their checksum.
+/// Makes the calls of a list, or writes or reads its frames; answers the checksum.
 pub fn run(list: List) -> u64 {
-    run_seen(list, |_| {})
+    match list.chosen {
+        WRITES | READS => bus::run_seen(list, |_| {}),
+        _ => run_seen(list, |_| {}),
+    }
 }

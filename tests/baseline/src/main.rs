@@ -1,15 +1,18 @@
-//! The benchmark: `speed PROGRAM [CALLS]` times the program of the crate `speed` and the baseline over
-//! the same lists and prints the two rates of each kind of call with their ratio. Both run as a
-//! process of their own, in turn: `speed --list SEED CALLS KIND LIVE` is the baseline's. The exit
-//! status is 1 where a checksum differs or a process fails.
-use baseline::list::{run, List};
+//! The benchmark: `speed PROGRAM [frames] [CALLS]` times the program of the crate `speed` and the
+//! baseline over the same lists and prints the two rates of each kind of call with their ratio, and
+//! then those of frames; with `frames` those alone. Both run as a process of their own, in turn:
+//! `speed --list SEED CALLS KIND LIVE` is the baseline's. The exit status is 1 where a checksum
+//! differs or a process fails.
+use baseline::list::{run, List, READS, WRITES};
 use std::hint::black_box;
 use std::process::{exit, Command};
 use std::time::Instant;
-use std::{env, path::PathBuf};
+use std::{env, ops::RangeInclusive, path::PathBuf};
 
-const KINDS: [&str; 7] = [
-    "event", "turn", "reading", "send", "refresh", "display", "mixed",
+const USAGE: &str = "speed PROGRAM [frames] [CALLS]";
+
+const KINDS: [&str; 9] = [
+    "event", "turn", "reading", "send", "refresh", "display", "mixed", "write", "read",
 ];
 const SEED: u64 = 2026;
 const CALLS: u64 = 400_000;
@@ -17,6 +20,9 @@ const ROUNDS: usize = 7;
 /// The baseline goes through each list this many times, so that its runs are as long as the
 /// library's.
 const REPEATS: u64 = 20;
+/// A read judges no bench and is quick: its list is this many times longer, and gone through that
+/// many times less often.
+const READS_LONGER: u64 = 10;
 
 /// The nanoseconds a call that the runs of one program took for one list: with the calls, and
 /// without them.
@@ -62,6 +68,15 @@ fn grouped(x: f64) -> String {
     text
 }
 
+/// How much longer the list of a kind is, and how often the baseline goes through it.
+fn lengths(chosen: u64) -> (u64, u64) {
+    if chosen == READS {
+        (READS_LONGER, REPEATS / READS_LONGER)
+    } else {
+        (1, REPEATS)
+    }
+}
+
 /// Runs a program over a list; answers its checksum and the nanoseconds that it took.
 fn timed(program: &PathBuf, first: &[&str], list: List) -> (String, f64) {
     let numbers = [list.seed, list.calls, list.chosen, u64::from(list.live)];
@@ -86,7 +101,8 @@ fn round(program: &PathBuf, list: List, library: &mut Vec<f64>, baseline: &mut V
     let (sum, took) = timed(program, &[], list);
     library.push(took / list.calls as f64);
     let (own_sum, own_took) = timed(&own, &["--list"], list);
-    baseline.push(own_took / (list.calls * REPEATS) as f64);
+    let (_, repeats) = lengths(list.chosen);
+    baseline.push(own_took / (list.calls * repeats) as f64);
     if sum != own_sum {
         let List {
             seed,
@@ -118,15 +134,13 @@ fn print_line(name: &str, library: &Times, baseline: &Times) {
     );
 }
 
-fn print_head(calls: u64) {
+fn print_head(what: &str) {
+    println!("Seed {SEED}, {what}; the best of {ROUNDS} rounds.");
+    println!("Ratio: the library's time over the baseline's, for the calls and for the runs whole. Call:");
     println!(
-        "Seed {SEED}, {calls} calls a list, the best of {ROUNDS} rounds. The baseline goes through"
+        "ns a call. List: ns a call for the list and the checksum, which are taken off. Noise: the"
     );
-    println!("each list {REPEATS} times. Ratio: the library's time over the baseline's, for the calls and");
-    println!(
-        "for the runs whole. Call: ns a call. List: ns a call for the list and the checksum, which"
-    );
-    println!("are taken off. Noise: the middle run above the best.");
+    println!("middle run above the best.");
     println!();
     println!(
         "              calls a second         ratio           call           list         noise"
@@ -136,18 +150,20 @@ fn print_head(calls: u64) {
     );
 }
 
-/// All lists in each round, so that what disturbs the machine for a while spoils one round of many
-/// lists and not all rounds of one.
-fn benchmark(program: &PathBuf, calls: u64) {
-    let mut library: [Times; 7] = Default::default();
-    let mut baseline: [Times; 7] = Default::default();
+/// All lists of some kinds in each round, so that what disturbs the machine for a while spoils one
+/// round of many lists and not all rounds of one.
+fn benchmark(program: &PathBuf, calls: u64, kinds: RangeInclusive<u64>, what: &str) {
+    let mut library: [Times; 9] = Default::default();
+    let mut baseline: [Times; 9] = Default::default();
     for _ in 0..ROUNDS {
-        for chosen in 0..7 {
-            let (theirs, ours) = (&mut library[chosen], &mut baseline[chosen]);
+        for chosen in kinds.clone() {
+            let theirs = &mut library[chosen as usize];
+            let ours = &mut baseline[chosen as usize];
+            let (longer, _) = lengths(chosen);
             let live = List {
                 seed: SEED,
-                calls,
-                chosen: chosen as u64,
+                calls: calls * longer,
+                chosen,
                 live: true,
             };
             let bare = List {
@@ -158,12 +174,28 @@ fn benchmark(program: &PathBuf, calls: u64) {
             round(program, bare, &mut theirs.bare, &mut ours.bare);
         }
     }
-    print_head(calls);
-    for (chosen, name) in KINDS.iter().enumerate() {
-        print_line(name, &library[chosen], &baseline[chosen]);
+    print_head(what);
+    for chosen in kinds.map(|chosen| chosen as usize) {
+        print_line(KINDS[chosen], &library[chosen], &baseline[chosen]);
     }
     println!();
     println!("Every checksum of the library is the baseline's.");
+}
+
+/// The six calls, and all of them mixed.
+fn benchmark_calls(program: &PathBuf, calls: u64) {
+    let what = format!("{calls} calls a list, gone through {REPEATS} times by the baseline");
+    benchmark(program, calls, 0..=6, &what);
+}
+
+/// Frames, written and read.
+fn benchmark_frames(program: &PathBuf, calls: u64) {
+    let (longer, repeats) = lengths(READS);
+    let reads = calls * longer;
+    let what = format!(
+        "{calls} writes and {reads} reads, gone through {REPEATS} and {repeats} times by the baseline"
+    );
+    benchmark(program, calls, WRITES..=READS, &what);
 }
 
 /// The baseline's own process: the list, time and again.
@@ -178,7 +210,8 @@ fn run_list(numbers: &[u64]) {
         live: live == 1,
     };
     let sum = run(list);
-    for _ in 1..REPEATS {
+    let (_, repeats) = lengths(chosen);
+    for _ in 1..repeats {
         if run(black_box(list)) != sum {
             stop("a list gave two sums");
         }
@@ -197,10 +230,20 @@ fn main() {
         Some((first, rest)) if first == "--list" => {
             run_list(&rest.iter().map(number).collect::<Vec<_>>());
         }
-        Some((program, rest)) if rest.len() < 2 => {
+        Some((program, rest)) => {
+            let program = PathBuf::from(program);
+            let frames_alone = rest.first().is_some_and(|word| word == "frames");
+            let rest = &rest[usize::from(frames_alone)..];
+            if rest.len() > 1 {
+                stop(USAGE);
+            }
             let calls = rest.first().map_or(CALLS, number).max(1);
-            benchmark(&PathBuf::from(program), calls);
+            if !frames_alone {
+                benchmark_calls(&program, calls);
+                println!();
+            }
+            benchmark_frames(&program, calls);
         }
-        _ => stop("speed PROGRAM [CALLS]"),
+        None => stop(USAGE),
     }
 }

@@ -24,6 +24,12 @@ pub static CHANGED: [[[u8; 256]; 2]; 20] = changed();
 pub static ASKS_FD: [[u8; 256]; 20] = asks_fd();
 /// A set with PITCH engaged.
 pub static PITCHED: [u8; 256] = pitched();
+/// How many sets are coherent.
+pub const SETS: u8 = 108;
+/// The code of a coherent set. The bytes of the sets go up as their codes do.
+pub static CODE: [u8; 256] = codes();
+/// The set of a code, and Off for a number that is no code.
+pub static SET: [u8; 256] = sets();
 
 const fn coherent() -> [bool; 256] {
     let mut table = [false; 256];
@@ -121,6 +127,35 @@ const fn pitched() -> [u8; 256] {
     while set <= ON_SETS {
         let m = modes::decoded(set);
         table[set as usize] = modes::code(modes::with_vertical(m, modes::PITCH));
+        set += 1;
+    }
+    table
+}
+
+const fn codes() -> [u8; 256] {
+    let coherent = coherent();
+    let mut table = [SETS; 256];
+    let mut code = 0;
+    let mut set = 0;
+    while set < 256 {
+        if coherent[set] {
+            table[set] = code;
+            code += 1;
+        }
+        set += 1;
+    }
+    assert!(code == SETS);
+    table
+}
+
+const fn sets() -> [u8; 256] {
+    let codes = codes();
+    let mut table = [OFF; 256];
+    let mut set = 0;
+    while set < 256 {
+        if codes[set] < SETS {
+            table[codes[set] as usize] = set as u8;
+        }
         set += 1;
     }
     table
