@@ -84,8 +84,11 @@ refusalBy (Pokes start) refusal b area = refusal
 refusalBy (Writes side start) refusal b area = writeRefusal b side start area
 
 -- what was asked, the refusal, and how long the area is then
+abbrev pub answerOf : Command → ℕ → ℕ → AreaAnswer
+answerOf heard refusal n = record { command = heard; refusal = refusal; length = n }
+
 abbrev pub answerBy : AreaAct → Command → ℕ → List ℕ → Bench → List ℕ → AreaAnswer
-answerBy act heard refusal line b area = record { command = heard; refusal = refusalBy act refusal b area; length = length (areaBy act line b area) }
+answerBy act heard refusal line b area = answerOf heard (refusalBy act refusal b area) (length (areaBy act line b area))
 
 -- a line that asks for c, where the bench has answered with a refusal or 0
 unfoldable pub areaAnswer : Command → ℕ → List ℕ → Bench → List ℕ → AreaAnswer

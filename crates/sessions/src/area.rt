@@ -4,7 +4,7 @@ ghost use Prim.Native.Nat.{_≤_, min};
 ghost use lib.ListN.{length, take, replicate};
 ghost use Rattle.numerals.specs.Pairs.{laidOver};
 ghost use Rattle.frames.specs.Frames.{writeRefusal, areaWritten};
-ghost use Rattle.sessions.specs.Areas.{areaAct, pokedBytes, inside, poked, areaBy, areaAfter, heardBy, answerBy, areaAnswer};
+ghost use Rattle.sessions.specs.Areas.{areaAct, pokedBytes, inside, poked, areaBy, areaAfter, heardBy, answerOf, answerBy, areaAnswer};
 use bench::Bench;
 use scripts::Command;
 
@@ -129,6 +129,16 @@ pub(crate) struct AreaAnswer {
     pub length: usize,
 }
 
+fn answer(command: Command, refusal: u32, length: usize) -> AreaAnswer
+    ensures { λ res. ⌜ res ≡ answerOf command refusal length ⌝ }
+{
+    AreaAnswer {
+        command,
+        refusal,
+        length,
+    }
+}
+
 // Does an act to such an area. Where no frame is written the refusal is the one that is given.
 fn act_on(
     act: AreaAct,
@@ -143,33 +153,20 @@ fn act_on(
     ensures { λ res. ⌜ res ≡ answerBy act command refusal (now (line .entry)) b (take n (now (store .entry))) ⌝ ∗ ⌜ now (store .exit) ≡ laidOver (areaBy act (now (line .entry)) b (take n (now (store .entry)))) (now (store .entry)) ⌝ }
 {
     match act {
-        AreaAct::Leaves => AreaAnswer {
-            command,
-            refusal,
-            length: n,
-        },
+        AreaAct::Leaves => answer(command, refusal, n),
         AreaAct::Clears(m) => {
             let length = m as usize;
             clear(store, length);
-            AreaAnswer {
-                command,
-                refusal,
-                length,
-            }
+            answer(command, refusal, length)
         }
         AreaAct::Pokes(start) => {
             poke_store(start, line, store, n);
-            AreaAnswer {
-                command,
-                refusal,
-                length: n,
-            }
+            answer(command, refusal, n)
         }
-        AreaAct::Writes(side, start) => AreaAnswer {
-            command,
-            refusal: write_store(b, side, start, store, n),
-            length: n,
-        },
+        AreaAct::Writes(side, start) => {
+            let written = write_store(b, side, start, store, n);
+            answer(command, written, n)
+        }
     }
 }
 
