@@ -44,8 +44,10 @@ const FIELDS: &[&str] = &[
     "number-examples : Numbers",
     "integer-examples : Integers",
     "value-examples : Values",
+    "pair-examples : Pairs",
     "value-laws : ValueLaws",
     "script-lines : Lines",
+    "line-laws : LineLaws",
     "session-laws : SessionLaws",
 ];
 
