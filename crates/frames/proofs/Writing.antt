@@ -58,7 +58,7 @@ module _ (bytes : List ℕ) (start : ℕ) (area : List ℕ) (h : start + length 
       ∙ ap (drop (length bytes)) from-laid
       ∙ drop-at bytes (drop (start + length bytes) area) (length bytes) refl
 
-  length-laid : length (laid start bytes area) ≡ length area
+  pub length-laid : length (laid start bytes area) ≡ length area
   length-laid =
       let all = length-append (take start area) (bytes ++ drop (start + length bytes) area) in
       let rest = length-append bytes (drop (start + length bytes) area) in

@@ -8,24 +8,23 @@ use native.Mathlib.Decide.{decLe}
 use borrow.Author.Tests.{leb-true, leb-false, le-leb, lt-leb}
 use borrow.Rule.Slice.PartMut.{putMid}
 use lib.Dec.{leb}
-use lib.ListN.{length, take, drop, length-append, length-take, length-drop, take-append-drop, length-replicate}
+use lib.ListN.{length, take, drop, length-append, length-drop, take-append-drop, length-replicate}
 use lib.Seq.{take-all, length-take-le, take-append-seam}
 use Rattle.numerals.specs.Pairs.{laidOver}
 use Rattle.bench.specs.declared.Bench.{Bench}
 use Rattle.frames.specs.Frames.{laid}
 use Rattle.frames.proofs.Areas.{from, from-is, put-frame}
+use Rattle.frames.proofs.Writing.{length-laid}
 use Rattle.frames.proofs.Laws.{frame-laws}
 use Rattle.scripts.specs.declared.Command.{Command}
 use Rattle.scripts.specs.Commands.{commandOf}
 use Rattle.scripts.proofs.Laws.{line-laws}
 use Rattle.sessions.specs.declared.area.AreaAct.{AreaAct}
 use Rattle.sessions.specs.Script.{asked}
+use Rattle.sessions.specs.Acts.{effectOf}
 use Rattle.sessions.specs.Areas.{areaAct, pokedBytes, inside, poked, areaBy, areaAfter, heardBy, answerBy, areaAnswer}
 
 -- ---- bytes inside an area
-
-laid-length : (start : ℕ) (bytes area : List ℕ) → start + length bytes ≤ length area → length (laid start bytes area) ≡ length area
-laid-length start bytes area h = simp (length-append, length-take, length-drop) (omega arith)
 
 module _ (start : ℕ) (bytes area : List ℕ) where
   -- told by how many bytes there are
@@ -57,7 +56,7 @@ module _ (start : ℕ) (bytes area : List ℕ) where
     where
       go : (t : Bool) → inside start bytes area ≡ t → length (cond t (laid start bytes area) area) ≡ length area
       go false e = refl
-      go true e = laid-length start bytes area (within e)
+      go true e = length-laid bytes start area (within e)
 
 -- ---- an area that is the first bytes of its store
 
@@ -95,7 +94,7 @@ module _ (area store : List ℕ) (h : length area ≤ length store) where
 
 -- ---- the answer and the area, by the act of a command
 
-module _ (c : Command) (line : List ℕ) (b : Bench) (area : List ℕ) (act : AreaAct) (e : act ≡ areaAct c) where
+module _ (c : Command) (line : List ℕ) (b : Bench) (area : List ℕ) (act : AreaAct) (e : act ≡ areaAct (effectOf c)) where
   pub answer-is : (refusal : ℕ) (heard : Command) → heard ≡ heardBy act c line area → answerBy act heard refusal line b area ≡ areaAnswer c refusal line b area
   unfolding areaAnswer
   answer-is refusal heard f =

@@ -13,6 +13,7 @@ use Rattle.calls.specs.declared.answers.Answer.{Answer}
 use Rattle.calls.specs.declared.answers.EventAnswer.{EventAnswer}
 use Rattle.calls.specs.Calls.{Call, received, answer, eventAnswer}
 use Rattle.sessions.specs.declared.acts.Effect.{Effect}
+use Rattle.sessions.specs.declared.area.AreaAct.{AreaAct}
 use Rattle.sessions.specs.Damage.{pfDamaged, setDamaged, referenceDamaged}
 
 -- the answer of a call that is no event: 32 names none
@@ -80,9 +81,9 @@ effectOf (DamagePf n) = Effect.Acts
 effectOf (DamageReading r) = Effect.Acts
 effectOf (DamageSet n set) = Effect.Acts
 effectOf (DamageReference n place x) = Effect.Acts
-effectOf (Area n) = Effect.Shows
-effectOf (Poke start) = Effect.Shows
-effectOf (Write side start) = Effect.Shows
+effectOf (Area n) = Effect.Stores (AreaAct.Clears n)
+effectOf (Poke start) = Effect.Stores (AreaAct.Pokes start)
+effectOf (Write side start) = Effect.Stores (AreaAct.Writes side start)
 effectOf (Read start) = Effect.Shows
 effectOf Bytes = Effect.Shows
 
@@ -90,8 +91,10 @@ abbrev pub watchAfter : Effect → Bool → Bool
 watchAfter Effect.Shows watch = watch
 watchAfter Effect.Acts watch = watch
 watchAfter (Effect.Watches on) watch = on
+watchAfter (Effect.Stores act) watch = watch
 
 abbrev pub isDrawn : Effect → Bool → Bool
 isDrawn Effect.Shows watch = false
 isDrawn Effect.Acts watch = watch
 isDrawn (Effect.Watches on) watch = false
+isDrawn (Effect.Stores act) watch = false

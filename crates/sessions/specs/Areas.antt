@@ -7,41 +7,21 @@ use lib.ListN.{length, replicate}
 use Rattle.numerals.specs.Pairs.{pairBytes}
 use Rattle.scripts.specs.Commands.{pairsOf}
 use Rattle.scripts.specs.declared.Command.{Command}
-use Rattle.scripts.specs.declared.Command.the-variants.{Blank, Wrong, Event, Send, Refresh, Display, Pick, Turn, Knob, Reading, PowerOn, Panel, Help, Watch}
-use Rattle.scripts.specs.declared.Command.the-variants.{DamagePf, DamageReading, DamageSet, DamageReference, Area, Poke, Write, Read, Bytes}
-use Rattle.scripts.specs.declared.Command.the-variants.{Bench as WriteBench}
+use Rattle.scripts.specs.declared.Command.the-variants.{Wrong}
 use Rattle.bench.specs.declared.Bench.{Bench}
 use Rattle.frames.specs.Frames.{laid, writeRefusal, areaWritten}
+use Rattle.sessions.specs.declared.acts.Effect.{Effect}
 use Rattle.sessions.specs.declared.area.AreaAct.{AreaAct}
 use Rattle.sessions.specs.declared.area.AreaAct.the-variants.{Leaves, Clears, Pokes, Writes}
 use Rattle.sessions.specs.declared.area.AreaAnswer.{AreaAnswer}
+use Rattle.sessions.specs.Acts.{effectOf}
 
--- three commands change the area
-abbrev pub areaAct : Command → AreaAct
-areaAct Blank = Leaves
-areaAct (Wrong why) = Leaves
-areaAct (Event word) = Leaves
-areaAct (Send side) = Leaves
-areaAct (Refresh side) = Leaves
-areaAct (Display side) = Leaves
-areaAct (Pick side) = Leaves
-areaAct (Turn knob count) = Leaves
-areaAct (Knob knob clicks) = Leaves
-areaAct (Reading r) = Leaves
-areaAct PowerOn = Leaves
-areaAct WriteBench = Leaves
-areaAct Panel = Leaves
-areaAct Help = Leaves
-areaAct (Watch on) = Leaves
-areaAct (DamagePf n) = Leaves
-areaAct (DamageReading r) = Leaves
-areaAct (DamageSet n set) = Leaves
-areaAct (DamageReference n place x) = Leaves
-areaAct (Area n) = Clears n
-areaAct (Poke start) = Pokes start
-areaAct (Write side start) = Writes side start
-areaAct (Read start) = Leaves
-areaAct Bytes = Leaves
+-- of the effects of commands one is on the area
+abbrev pub areaAct : Effect → AreaAct
+areaAct Effect.Shows = Leaves
+areaAct Effect.Acts = Leaves
+areaAct (Effect.Watches on) = Leaves
+areaAct (Effect.Stores act) = act
 
 -- ---- the area afterwards
 
@@ -65,7 +45,7 @@ areaBy (Writes side start) line b area = areaWritten b side start area
 
 -- after a line that asks for a command, on the bench before it
 abbrev pub areaAfter : List ℕ → Command → Bench → List ℕ → List ℕ
-areaAfter line c b area = areaBy (areaAct c) line b area
+areaAfter line c b area = areaBy (areaAct (effectOf c)) line b area
 
 -- ---- the answer
 
@@ -92,4 +72,4 @@ answerBy act heard refusal line b area = answerOf heard (refusalBy act refusal b
 
 -- a line that asks for c, where the bench has answered with a refusal or 0
 unfoldable pub areaAnswer : Command → ℕ → List ℕ → Bench → List ℕ → AreaAnswer
-areaAnswer c refusal line b area = answerBy (areaAct c) (heardBy (areaAct c) c line area) refusal line b area
+areaAnswer c refusal line b area = answerBy (areaAct (effectOf c)) (heardBy (areaAct (effectOf c)) c line area) refusal line b area

@@ -1,6 +1,7 @@
 // What a command does to the bench, and what it answers.
 ghost use mathlib.Core.Path.{_≡_};
 ghost use Rattle.sessions.specs.Acts.{eventless, leaves, clicked, effectOf, watchAfter, isDrawn, answerTo};
+use crate::area::AreaAct;
 use crate::damage::damage_pf;
 use crate::damage::damage_reading;
 use crate::damage::damage_reference;
@@ -43,12 +44,13 @@ fn click(b: Bench, knob: u32, clicks: u8) -> Answer
     calls::turn(b, knob, count)
 }
 
-// What a command is for, beside its answer: it shows something or is for the bus area, it can change the bench, or it
-// turns the watch on or off.
+// What a command is for, beside its answer: it shows something, it can change the bench, it turns the watch on
+// or off, or it changes the bus area.
 pub(crate) enum Effect {
     Shows,
     Acts,
     Watches(bool),
+    Stores(AreaAct),
 }
 
 pub(crate) fn effect_of(c: Command) -> Effect
@@ -74,9 +76,9 @@ pub(crate) fn effect_of(c: Command) -> Effect
         Command::DamageReading(_) => Effect::Acts,
         Command::DamageSet(_, _) => Effect::Acts,
         Command::DamageReference(_, _, _) => Effect::Acts,
-        Command::Area(_) => Effect::Shows,
-        Command::Poke(_) => Effect::Shows,
-        Command::Write(_, _) => Effect::Shows,
+        Command::Area(n) => Effect::Stores(AreaAct::Clears(n)),
+        Command::Poke(start) => Effect::Stores(AreaAct::Pokes(start)),
+        Command::Write(side, start) => Effect::Stores(AreaAct::Writes(side, start)),
         Command::Read(_) => Effect::Shows,
         Command::Bytes => Effect::Shows,
     }
@@ -90,6 +92,7 @@ pub(crate) fn watch_after(effect: Effect, watch: bool) -> bool
         Effect::Shows => watch,
         Effect::Acts => watch,
         Effect::Watches(on) => on,
+        Effect::Stores(_) => watch,
     }
 }
 
@@ -101,6 +104,7 @@ pub(crate) fn is_drawn(effect: Effect, watch: bool) -> bool
         Effect::Shows => false,
         Effect::Acts => watch,
         Effect::Watches(_) => false,
+        Effect::Stores(_) => false,
     }
 }
 

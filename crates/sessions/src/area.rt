@@ -5,9 +5,12 @@ ghost use lib.ListN.{length, take, replicate};
 ghost use Rattle.numerals.specs.Pairs.{laidOver};
 ghost use Rattle.frames.specs.Frames.{writeRefusal, areaWritten};
 ghost use Rattle.sessions.specs.Areas.{areaAct, pokedBytes, inside, poked, areaBy, areaAfter, heardBy, answerOf, answerBy, areaAnswer};
+use crate::acts::Effect;
+use crate::acts::effect_of;
 use bench::Bench;
 use scripts::Command;
 
+// What is done to the area.
 pub(crate) enum AreaAct {
     Leaves,
     Clears(u32),
@@ -15,34 +18,14 @@ pub(crate) enum AreaAct {
     Writes(u32, u64),
 }
 
-pub(crate) fn act_of(c: Command) -> AreaAct
-    ensures { λ res. ⌜ res ≡ areaAct c ⌝ }
+fn act_of(effect: Effect) -> AreaAct
+    ensures { λ res. ⌜ res ≡ areaAct effect ⌝ }
 {
-    match c {
-        Command::Blank => AreaAct::Leaves,
-        Command::Wrong(_) => AreaAct::Leaves,
-        Command::Event(_) => AreaAct::Leaves,
-        Command::Send(_) => AreaAct::Leaves,
-        Command::Refresh(_) => AreaAct::Leaves,
-        Command::Display(_) => AreaAct::Leaves,
-        Command::Pick(_) => AreaAct::Leaves,
-        Command::Turn(_, _) => AreaAct::Leaves,
-        Command::Knob(_, _) => AreaAct::Leaves,
-        Command::Reading(_) => AreaAct::Leaves,
-        Command::PowerOn => AreaAct::Leaves,
-        Command::Bench => AreaAct::Leaves,
-        Command::Panel => AreaAct::Leaves,
-        Command::Help => AreaAct::Leaves,
-        Command::Watch(_) => AreaAct::Leaves,
-        Command::DamagePf(_) => AreaAct::Leaves,
-        Command::DamageReading(_) => AreaAct::Leaves,
-        Command::DamageSet(_, _) => AreaAct::Leaves,
-        Command::DamageReference(_, _, _) => AreaAct::Leaves,
-        Command::Area(n) => AreaAct::Clears(n),
-        Command::Poke(start) => AreaAct::Pokes(start),
-        Command::Write(side, start) => AreaAct::Writes(side, start),
-        Command::Read(_) => AreaAct::Leaves,
-        Command::Bytes => AreaAct::Leaves,
+    match effect {
+        Effect::Shows => AreaAct::Leaves,
+        Effect::Acts => AreaAct::Leaves,
+        Effect::Watches(_) => AreaAct::Leaves,
+        Effect::Stores(act) => act,
     }
 }
 
@@ -187,7 +170,7 @@ pub(crate) fn answer_in(
 ) -> AreaAnswer
     ensures { λ res. ⌜ res ≡ areaAnswer c refusal (now (line .entry)) b (take length (now (store .entry))) ⌝ ∗ ⌜ now (store .exit) ≡ laidOver (areaAfter (now (line .entry)) c b (take length (now (store .entry)))) (now (store .entry)) ⌝ }
 {
-    let act = act_of(c);
+    let act = act_of(effect_of(c));
     let n = least(length, store.len());
     let command = heard(act, c, line, &store[..n]);
     act_on(act, command, refusal, line, b, store, n)

@@ -8,8 +8,19 @@ mod scripts;
 mod sheet;
 mod walk;
 
-use crate::bench::{Bench, Kind, Refusal};
+use crate::bench::{Bench, Kind, Reference, Refusal};
 use crate::calls::{self, Display};
+
+/// The ends of the references' ranges, as document 01 has them.
+const RANGES: [(Reference, i32, i32); 7] = [
+    (Reference::Heading, 0, 359),
+    (Reference::Preselected, -8_000, 56_000),
+    (Reference::Held, -8_000, 56_000),
+    (Reference::VerticalSpeed, -50, 50),
+    (Reference::Ias, 60, 400),
+    (Reference::Roll, -27, 27),
+    (Reference::Pitch, -20, 20),
+];
 
 /// The bench after some accepted event words from power-on.
 fn after(words: &[u32]) -> Bench {

@@ -1,6 +1,6 @@
 //! Frames written into and read from a bus area.
 
-use super::{after, read as reading};
+use super::{after, read as reading, RANGES};
 use crate::bench::{Bench, Channel, Kind, Reference, References, Refusal};
 use crate::calls;
 use crate::codes;
@@ -95,17 +95,7 @@ fn what_was_written_is_read_for_all_codes_of_both_sides() {
 
 #[test]
 fn what_was_written_is_read_for_all_values_of_references() {
-    use Reference::*;
-    let ranges = [
-        (Heading, 0, 359),
-        (Preselected, -8_000, 56_000),
-        (Held, -8_000, 56_000),
-        (VerticalSpeed, -50, 50),
-        (Ias, 60, 400),
-        (Roll, -27, 27),
-        (Pitch, -20, 20),
-    ];
-    for (reference, low, high) in ranges {
+    for (reference, low, high) in RANGES {
         for value in low..=high {
             let mut bench = Bench::power_on();
             bench.sides[0].references.put(reference, value);

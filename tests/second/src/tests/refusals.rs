@@ -1,6 +1,6 @@
 //! Each refusal, and their order.
 
-use super::after;
+use super::{after, RANGES};
 use crate::bench::{Bench, Channel, Kind, Reference, Refusal};
 use crate::calls;
 use crate::float;
@@ -80,17 +80,7 @@ fn refusal_1_references_of_sides_and_inboxes() {
 
 #[test]
 fn refusal_1_ranges_of_references() {
-    use Reference::*;
-    let ranges = [
-        (Heading, 0, 359),
-        (Preselected, -8_000, 56_000),
-        (Held, -8_000, 56_000),
-        (VerticalSpeed, -50, 50),
-        (Ias, 60, 400),
-        (Roll, -27, 27),
-        (Pitch, -20, 20),
-    ];
-    for (reference, low, high) in ranges {
+    for (reference, low, high) in RANGES {
         for value in low - 1..=high + 1 {
             let mut bench = Bench::power_on();
             bench.inboxes[1].references.put(reference, value);

@@ -1,32 +1,11 @@
--- `sessions::area::act_of` meets its contract: each arm is that of its command. Assumes nothing.
+-- `sessions::area::act_of` meets its contract: each arm is that of its effect. Assumes nothing.
 use borrow.Author.Needs.{needs}
 use Rattle.sessions.proofs.area.act_of.Statement.{statement}
 use Rattle.sessions.proofs.area.act_of.Tie as tie
 
 pub act-of-spec : {M : Type 1} → statement M
 act-of-spec =
-    tie.close
-    (tie.spec
-    (λ c. search needs)
-    (λ c. search needs)
-    (λ c. search needs)
-    (λ c. search needs)
-    (λ c. search needs)
-    (λ c. search needs)
-    (λ c. search needs)
-    (λ c. search needs)
-    (λ c. search needs)
-    (λ c. search needs)
-    (λ c. search needs)
-    (λ c. search needs)
-    (λ c. search needs)
-    (λ c. search needs)
-    (λ c. search needs)
-    (λ c. search needs)
-    (λ c. search needs)
-    (λ c. search needs)
-    (λ c. search needs)
-    (λ c. search needs)
+    tie.close (tie.spec
     (λ c. search needs)
     (λ c. search needs)
     (λ c. search needs)
@@ -34,24 +13,4 @@ act-of-spec =
     (λ c. rw (c .enum-told .given .1))
     (λ c. rw (c .enum-told2 .given .1))
     (λ c. rw (c .enum-told3 .given .1))
-    (λ c. rw (c .enum-told4 .given .1))
-    (λ c. rw (c .enum-told5 .given .1))
-    (λ c. rw (c .enum-told6 .given .1))
-    (λ c. rw (c .enum-told7 .given .1))
-    (λ c. rw (c .enum-told8 .given .1))
-    (λ c. rw (c .enum-told9 .given .1))
-    (λ c. rw (c .enum-told10 .given .1))
-    (λ c. rw (c .enum-told11 .given .1))
-    (λ c. rw (c .enum-told12 .given .1))
-    (λ c. rw (c .enum-told13 .given .1))
-    (λ c. rw (c .enum-told14 .given .1))
-    (λ c. rw (c .enum-told15 .given .1))
-    (λ c. rw (c .enum-told16 .given .1))
-    (λ c. rw (c .enum-told17 .given .1))
-    (λ c. rw (c .enum-told18 .given .1))
-    (λ c. rw (c .enum-told19 .given .1))
-    (λ c. rw (c .before .c .given .1))
-    (λ c. rw (c .before .c2 .given .1))
-    (λ c. rw (c .before .c3 .given .1))
-    (λ c. rw (c .enum-told20 .given .1))
-    (λ c. rw (c .enum-told21 .given .1)))
+    (λ c. rw (c .before .effect .given .1)))

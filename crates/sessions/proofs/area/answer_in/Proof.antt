@@ -6,7 +6,7 @@ use native.Mathlib.Omega.{arith}
 use denote.Ref.{now}
 use lib.ListN.{length, take}
 use Rattle.numerals.specs.Pairs.{laidOver}
-use Rattle.sessions.specs.Areas.{areaAfter, areaAnswer}
+use Rattle.sessions.specs.Areas.{areaAct, areaAfter, areaAnswer}
 use Rattle.sessions.proofs.Areas.{first-length, first-is, answer-is, after-is}
 use borrow.Author.Needs.{needs}
 use Rattle.sessions.proofs.area.answer_in.Statement.{statement}
@@ -15,7 +15,7 @@ use Rattle.sessions.proofs.area.answer_in.Tie as tie
 slice-aggregate-heard : tie.Need-slice-aggregate-heard
 slice-aggregate-heard c =
     let at-least = c .before in
-    let given = at-least .before .before .before .before .args in
+    let given = at-least .before .before .before .before .before .args in
     sym (first-length (now (given .store)) (at-least .least .result) (omega arith))
 
 returns : tie.Need-returns
@@ -24,20 +24,22 @@ returns c =
     let at-heard = at-act .before .before in
     let at-least = at-heard .before .before in
     let of = at-least .before .act-of in
-    let a = at-least .before .before .before .before .args in
+    let effect = at-least .before .before .effect-of in
+    let is-act = of .ensures ∙ ap areaAct (effect .ensures) in
+    let a = at-least .before .before .before .before .before .args in
     let line = now (a .line) in
     let store = now (a .store) in
     let part = take (at-least .least .result) store in
     let same = first-is store (a .length) (at-least .least .result) (at-least .least .ensures) in (
       at-act .act-on .ensures .0
-          ∙ answer-is (a .c) line (a .b) part (of .result) (of .ensures) (a .refusal) (at-heard .heard .result) (at-heard .heard .ensures)
+          ∙ answer-is (a .c) line (a .b) part (of .result) is-act (a .refusal) (at-heard .heard .result) (at-heard .heard .ensures)
           ∙ ap (areaAnswer (a .c) (a .refusal) line (a .b)) same,
       at-act .act-on .ensures .1
           ∙ ap (λ (area : List ℕ). laidOver area store)
-          (after-is (a .c) line (a .b) part (of .result) (of .ensures) ∙ ap (areaAfter line (a .c) (a .b)) same),
+          (after-is (a .c) line (a .b) part (of .result) is-act ∙ ap (areaAfter line (a .c) (a .b)) same),
     )
 
 pub answer-in-spec : {M : Type 1} → statement M
 answer-in-spec =
     tie.close (tie.spec
-    (λ c κs. search needs) (λ c κs. search needs) (λ c. search needs) slice-aggregate-heard (λ c κs. search needs) (λ c κs. search needs) (λ c. search needs) returns)
+    (λ c κs. search needs) (λ c κs. search needs) (λ c κs. search needs) (λ c. search needs) slice-aggregate-heard (λ c κs. search needs) (λ c κs. search needs) (λ c. search needs) returns)
