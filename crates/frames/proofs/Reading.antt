@@ -21,7 +21,7 @@ use Rattle.bench.specs.declared.Channel.{Channel}
 use Rattle.bench.specs.declared.ranges.Range.{Range}
 use Rattle.bench.specs.Parts.{reference}
 use Rattle.bench.specs.Ranges.{range, within, referenceRange}
-use Rattle.bench.specs.Sound.{referencesSound, channelSound, sound}
+use Rattle.bench.specs.Sound.{referencesSound, channelSound}
 use Rattle.bench.proofs.SoundParts.{and-left, and-right, and-both, ReferencesIn, ChannelIn, references-whole, channel-parts}
 use Rattle.frames.specs.declared.FrameRead.{FrameRead}
 use Rattle.frames.specs.Frames.{raised, high, low, frameOf, byteAt, oneByte, twoBytes, isMarked, referencesIn, refused, acceptedIf, readWithSet, fieldsRead, frameRead, readAt}

@@ -71,7 +71,7 @@ impl Gate {
                         .map_or(text, |line| script::up_to(text, line)),
                     shown_again: true,
                 };
-                let runs = [(name, outcome), ("document 01", &paper)];
+                let runs = [(name, outcome), ("the papers", &paper)];
                 return Err(self.failed(text, &difference, runs, shortest));
             }
         }
@@ -203,13 +203,13 @@ mod tests {
         assert!(gate(["cat", "cat"]).check_against(&script, paper).is_ok());
         let text = report(gate(["cat", "cat"]).check_against(&script, "send 0\nsend 3\nsend 2\n"));
         assert!(
-            text.contains("console: send 1\ndocument 01: send 3\n"),
+            text.contains("console: send 1\nthe papers: send 3\n"),
             "{text}"
         );
         assert!(text.ends_with("(lines: 2):\nsend 0\nsend 1\n"), "{text}");
         let text = report(gate(["cat", "true"]).check_against(&script, paper));
         assert!(
-            text.contains("second: (no answer)\ndocument 01: send 0\n"),
+            text.contains("second: (no answer)\nthe papers: send 0\n"),
             "{text}"
         );
     }

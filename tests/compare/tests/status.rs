@@ -33,7 +33,7 @@ fn wrong_answers_of_both_give_1() {
     let (status, printed, _) = compare(&["cat", "cat"]);
     assert_eq!(status, 1);
     assert!(printed.contains("\nDIFFERENCE in bench sheet, seed "));
-    assert!(printed.contains("\nconsole: reading roll 12.5\ndocument 01: reading 0\n"));
+    assert!(printed.contains("\nconsole: reading roll 12.5\nthe papers: reading 0\n"));
 }
 
 #[test]

@@ -7,7 +7,7 @@ use crate::parts::words::{self, Set, SIDES};
 use crate::say;
 use crate::script::Script;
 
-/// Off and the coherent On sets, as document 01 counts them.
+/// Off and the coherent On sets, as the papers count them.
 const CODES: usize = 108;
 
 /// Where the frames stand, with a byte of the area on each side.
