@@ -1,10 +1,11 @@
 -- Modes by the numbers of their laws, and the armed lateral mode by its number. Document 01, 'Display'.
-use mathlib.Core.Bool.{cond}
+use mathlib.Core.Bool.{Bool, cond}
 use Prim.Native.Nat.{ℕ}
 use lib.Dec.{eqb}
 use Rattle.modes.specs.declared.Lateral.{Lateral}
 use Rattle.modes.specs.declared.ArmedLateral.{ArmedLateral}
 use Rattle.modes.specs.declared.Vertical.{Vertical}
+use Rattle.modes.specs.declared.Modes.{Modes}
 
 abbrev pub lateralBy : ℕ → Lateral
 lateralBy n =
@@ -24,3 +25,7 @@ verticalBy n =
     (cond (eqb n 6) Vertical.AltselTrack
     (cond (eqb n 7) Vertical.Vappr
     Vertical.Vga))))))
+
+-- the modes of three such numbers, with VAPPR armed or not
+abbrev pub modesBy : ℕ → ℕ → ℕ → Bool → Modes
+modesBy lateral armed vertical vappr = record { lateral = lateralBy lateral; armed = armedBy armed; vertical = verticalBy vertical; «vappr_armed» = vappr }

@@ -10,7 +10,7 @@ use Rattle.modes.specs.declared.Modes.{Modes}
 use Rattle.modes.specs.declared.ModeSet.{ModeSet}
 use Rattle.modes.specs.Numbers.{lateralLaw, verticalLaw, armedSum, worth}
 use Rattle.modes.specs.Sets.{coherent}
-use Rattle.codes.specs.Numbers.{lateralBy, armedBy, verticalBy}
+use Rattle.codes.specs.Numbers.{modesBy}
 
 -- ---- from a set to its code
 
@@ -63,13 +63,5 @@ arithmetic m = cond (coherent m) (firstCode (m .lateral) (m .armed) + placeBesid
 abbrev pub digitsOf : ModeSet → ℕ
 digitsOf s = lateralLaw s * 256 + verticalLaw s * 16 + armedSum s
 
-abbrev pub modesShown : ℕ → ℕ → ℕ → Modes
-modesShown lateral vertical armed = record {
-  lateral = lateralBy lateral;
-  armed = armedBy (armed % 4);
-  vertical = verticalBy vertical;
-  «vappr_armed» = leb 8 armed;
-}
-
 abbrev pub setShown : ℕ → ℕ → ℕ → ModeSet
-setShown lateral vertical armed = cond (eqb lateral 0) ModeSet.Off (ModeSet.On (modesShown lateral vertical armed))
+setShown lateral vertical armed = cond (eqb lateral 0) ModeSet.Off (ModeSet.On (modesBy lateral (armed % 4) vertical (leb 8 armed)))

@@ -4,7 +4,7 @@ ghost use mathlib.Core.List.{map};
 ghost use Prim.Native.Nat.{_<_};
 ghost use lib.ListN.{getD};
 ghost use Rattle.codes.specs.Codes.{codedSets, codeOf, setOf};
-ghost use Rattle.codes.specs.Numbers.{lateralBy, armedBy, verticalBy};
+ghost use Rattle.codes.specs.Numbers.{lateralBy, armedBy, verticalBy, modesBy};
 ghost use Rattle.codes.specs.Private.{byArmed, firstCode, singlePlace, doublePlace, placeBeside, digitsOf, setShown};
 use modes::ArmedLateral;
 use modes::Lateral;
@@ -226,7 +226,7 @@ pub fn set_code(s: ModeSet) -> u32
 }
 
 // The lateral mode of a law; LGA where the number is none's.
-pub fn lateral_by(n: u64) -> Lateral
+fn lateral_by(n: u64) -> Lateral
     ensures { λ res. ⌜ res ≡ lateralBy n ⌝ }
 {
     match n {
@@ -239,7 +239,7 @@ pub fn lateral_by(n: u64) -> Lateral
 }
 
 // The armed lateral mode of a number: 0 is none, 1 NAV and any other LAPPR.
-pub fn armed_by(n: u64) -> ArmedLateral
+fn armed_by(n: u64) -> ArmedLateral
     ensures { λ res. ⌜ res ≡ armedBy n ⌝ }
 {
     match n {
@@ -250,7 +250,7 @@ pub fn armed_by(n: u64) -> ArmedLateral
 }
 
 // The vertical mode of a law; VGA where the number is none's.
-pub fn vertical_by(n: u64) -> Vertical
+fn vertical_by(n: u64) -> Vertical
     ensures { λ res. ⌜ res ≡ verticalBy n ⌝ }
 {
     match n {
@@ -265,6 +265,18 @@ pub fn vertical_by(n: u64) -> Vertical
     }
 }
 
+// The modes of two laws and of the armed lateral mode's number, with VAPPR armed or not.
+pub fn modes_by(lateral: u64, armed: u64, vertical: u64, vappr_armed: bool) -> Modes
+    ensures { λ res. ⌜ res ≡ modesBy lateral armed vertical «vappr_armed» ⌝ }
+{
+    Modes {
+        lateral: lateral_by(lateral),
+        armed: armed_by(armed),
+        vertical: vertical_by(vertical),
+        vappr_armed,
+    }
+}
+
 // The set that shows two laws and an armed sum. ALTSEL's part of the sum goes by the vertical mode.
 fn set_shown(lateral: u64, vertical: u64, armed: u64) -> ModeSet
     ensures { λ res. ⌜ res ≡ setShown lateral vertical armed ⌝ }
@@ -272,12 +284,7 @@ fn set_shown(lateral: u64, vertical: u64, armed: u64) -> ModeSet
     if lateral == 0 {
         return ModeSet::Off;
     }
-    ModeSet::On(Modes {
-        lateral: lateral_by(lateral),
-        armed: armed_by(armed % 4),
-        vertical: vertical_by(vertical),
-        vappr_armed: 8 <= armed,
-    })
+    ModeSet::On(modes_by(lateral, armed % 4, vertical, 8 <= armed))
 }
 
 // The entry of a code in the table.

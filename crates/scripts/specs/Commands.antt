@@ -8,10 +8,8 @@ use lib.Dec.{eqb, leb, ltb}
 use lib.Ieee.{Float}
 use lib.IntN.{ℤ}
 use lib.ListN.{length}
-use Rattle.modes.specs.declared.Vertical.{Vertical}
-use Rattle.modes.specs.declared.Modes.{Modes}
 use Rattle.modes.specs.declared.ModeSet.{ModeSet}
-use Rattle.codes.specs.Numbers.{lateralBy, armedBy, verticalBy}
+use Rattle.codes.specs.Numbers.{modesBy}
 use Rattle.bench.specs.declared.Reading.{Reading}
 use Rattle.words.specs.Words.{upTo, wordOf, lookupOf}
 use Rattle.numerals.specs.declared.answers.Number.{Number}
@@ -261,18 +259,10 @@ abbrev pub givesOn : ℕ → ℕ → ℕ → ℕ → Bool
 givesOn lateral armed vertical vappr =
     leb 1 lateral && (leb lateral 5 && (leb armed 2 && (leb 1 vertical && (leb vertical 8 && leb vappr 1))))
 
-abbrev pub modesBy : ℕ → ℕ → ℕ → ℕ → Modes
-modesBy lateral armed vertical vappr = record {
-  lateral = lateralBy lateral;
-  armed = armedBy armed;
-  vertical = verticalBy vertical;
-  «vappr_armed» = eqb vappr 1;
-}
-
 unfoldable pub setBy : ℕ → ℕ → ℕ → ℕ → Given
 setBy lateral armed vertical vappr =
     cond (givesOff lateral armed vertical vappr) (Given.Is ModeSet.Off)
-    (cond (givesOn lateral armed vertical vappr) (Given.Is (ModeSet.On (modesBy lateral armed vertical vappr)))
+    (cond (givesOn lateral armed vertical vappr) (Given.Is (ModeSet.On (modesBy lateral armed vertical (eqb vappr 1))))
     Given.Wrong)
 
 abbrev pub ifSet : Given → (ModeSet → Command) → Command

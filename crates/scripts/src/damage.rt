@@ -1,7 +1,7 @@
 // The `damage` commands: parts of the bench, and what is to be written there.
 ghost use mathlib.Core.Path.{_≡_};
 ghost use Rattle.words.specs.Words.{wordOf, lookupOf};
-ghost use Rattle.scripts.specs.Commands.{endsAt, readingAt, ifReading, figureAt, givesOff, givesOn, modesBy, setBy};
+ghost use Rattle.scripts.specs.Commands.{endsAt, readingAt, ifReading, figureAt, givesOff, givesOn, setBy};
 ghost use Rattle.scripts.specs.Commands.{damageNames, partNames, damagePf, damageSet, damageReference, damagePart, damageBy};
 use crate::Command;
 use crate::NO_DAMAGE;
@@ -14,7 +14,6 @@ use crate::places::ends_at;
 use crate::places::number_at;
 use crate::places::reading_at;
 use modes::ModeSet;
-use modes::Modes;
 use numerals::answers::Number;
 use numerals::answers::Signed;
 
@@ -70,17 +69,6 @@ fn gives_on(lateral: u64, armed: u64, vertical: u64, vappr: u64) -> bool
         & ((lateral <= 5) & ((armed <= 2) & ((1 <= vertical) & ((vertical <= 8) & (vappr <= 1)))))
 }
 
-fn modes_by(lateral: u64, armed: u64, vertical: u64, vappr: u64) -> Modes
-    ensures { λ res. ⌜ res ≡ modesBy lateral armed vertical vappr ⌝ }
-{
-    Modes {
-        lateral: codes::lateral_by(lateral),
-        armed: codes::armed_by(armed),
-        vertical: codes::vertical_by(vertical),
-        vappr_armed: vappr == 1,
-    }
-}
-
 // The set of four numbers.
 fn set_by(lateral: u64, armed: u64, vertical: u64, vappr: u64) -> Given
     ensures { λ res. ⌜ res ≡ setBy lateral armed vertical vappr ⌝ }
@@ -89,7 +77,7 @@ fn set_by(lateral: u64, armed: u64, vertical: u64, vappr: u64) -> Given
         return Given::Is(ModeSet::Off);
     }
     if gives_on(lateral, armed, vertical, vappr) {
-        return Given::Is(ModeSet::On(modes_by(lateral, armed, vertical, vappr)));
+        return Given::Is(ModeSet::On(codes::modes_by(lateral, armed, vertical, vappr == 1)));
     }
     Given::Wrong
 }

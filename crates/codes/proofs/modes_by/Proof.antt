@@ -1,7 +1,7 @@
--- `scripts::damage::modes_by` meets its contract: it calls what `modesBy` is composed of. Assumes nothing.
+-- `codes::modes_by` meets its contract: it calls what `modesBy` is composed of. Assumes nothing.
 use borrow.Author.Needs.{needs}
-use Rattle.scripts.proofs.damage.modes_by.Statement.{statement}
-use Rattle.scripts.proofs.damage.modes_by.Tie as tie
+use Rattle.codes.proofs.modes_by.Statement.{statement}
+use Rattle.codes.proofs.modes_by.Tie as tie
 
 pub modes-by-spec : {M : Type 1} → statement M
 modes-by-spec =
