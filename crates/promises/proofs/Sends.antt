@@ -2,7 +2,6 @@
 use mathlib.Core.Path.{_≡_, refl, sym, ap, _∙_, subst}
 use Prim.Native.Nat.{ℕ, zero, suc, _≤_}
 use native.Mathlib.Omega.{arith}
-use Rattle.bench.specs.declared.Bench.{Bench}
 use Rattle.bench.specs.Sides.{otherSide, side, inbox}
 use Rattle.calls.specs.Calls.{Call, next}
 use Rattle.claim.proofs.OneCall.{sent-inbox, other-side}

@@ -1,110 +1,19 @@
--- What the code does to an area is what a line does to it: bytes inside an area, and an area that is the first bytes of its store. Assumes nothing.
-use mathlib.Core.Path.{_≡_, refl, sym, ap, _∙_}
+-- How long the area is after a line: at most as long as its store. Assumes nothing.
+use mathlib.Core.Path.{_≡_, refl}
 use mathlib.Core.Bool.{Bool, true, false, cond}
-use mathlib.Core.List.{List, _++_}
-use Prim.Native.Nat.{ℕ, _+_, _-_, _≤_, _<_, min}
-use native.Mathlib.Omega.{arith}
-use native.Mathlib.Decide.{decLe}
-use borrow.Author.Tests.{leb-true, leb-false, le-leb, lt-leb}
-use borrow.Rule.Slice.PartMut.{putMid}
+use mathlib.Core.List.{List}
+use Prim.Native.Nat.{ℕ, _≤_}
 use lib.Dec.{leb}
-use lib.ListN.{length, take, drop, length-append, length-drop, take-append-drop, length-replicate}
-use lib.Seq.{take-all, length-take-le, take-append-seam}
-use Rattle.numerals.specs.Pairs.{laidOver}
+use lib.ListN.{length, length-replicate}
 use Rattle.bench.specs.declared.Bench.{Bench}
-use Rattle.frames.specs.Frames.{laid}
-use Rattle.frames.proofs.Areas.{from, from-is, put-frame}
-use Rattle.frames.proofs.Writing.{length-laid}
 use Rattle.frames.proofs.Laws.{frame-laws}
 use Rattle.scripts.specs.declared.Command.{Command}
 use Rattle.scripts.specs.Commands.{commandOf}
 use Rattle.scripts.proofs.Laws.{line-laws}
-use Rattle.sessions.specs.declared.area.AreaAct.{AreaAct}
+use Rattle.areas.specs.Areas.{pokedBytes}
+use Rattle.areas.proofs.Areas.{poked-length}
+use Rattle.sessions.specs.Effects.{areaAfter}
 use Rattle.sessions.specs.Script.{asked}
-use Rattle.sessions.specs.Acts.{effectOf}
-use Rattle.sessions.specs.Areas.{areaAct, pokedBytes, inside, poked, areaBy, areaAfter, heardBy, answerBy, areaAnswer}
-
--- ---- bytes inside an area
-
-module _ (start : ℕ) (bytes area : List ℕ) where
-  -- told by how many bytes there are
-  pub too-many : (count : ℕ) → count ≡ length bytes → length area < count → inside start bytes area ≡ false
-  too-many count e h = lt-leb (start + length bytes) (length area) (omega arith)
-
-  pub last-start : (count : ℕ) → count ≡ length bytes → count ≤ length area → leb start (length area - count) ≡ inside start bytes area
-  last-start count e h = go (inside start bytes area) refl
-    where
-      go : (t : Bool) → inside start bytes area ≡ t → leb start (length area - count) ≡ t
-      go true f = let l = leb-true (start + length bytes) (length area) f in le-leb start (length area - count) (omega arith)
-      go false f = let l = leb-false (start + length bytes) (length area) f in lt-leb start (length area - count) (omega arith)
-
-  pub within : inside start bytes area ≡ true → start + length bytes ≤ length area
-  within e = leb-true (start + length bytes) (length area) e
-
-  -- bytes over the part from the start on, put back, are the poked ones
-  pub put-poked : inside start bytes area ≡ true → (part : List ℕ) → part ≡ laidOver bytes (from start area) →
-      putMid start (length area - start) area part ≡ poked start bytes area
-  unfolding poked
-  put-poked e part f =
-      let l = within e in
-      let size : length bytes ≤ length (from start area) = omega (arith, ap (λ (x : List ℕ). length x) (from-is start area), length-drop start area) in
-      rw (f, take-all (length (from start area)) bytes size, put-frame bytes start area (omega arith), e)
-
-  pub poked-length : length (poked start bytes area) ≡ length area
-  unfolding poked
-  poked-length = go (inside start bytes area) refl
-    where
-      go : (t : Bool) → inside start bytes area ≡ t → length (cond t (laid start bytes area) area) ≡ length area
-      go false e = refl
-      go true e = length-laid bytes start area (within e)
-
--- ---- an area that is the first bytes of its store
-
-module _ (store : List ℕ) (n : ℕ) (h : n ≤ length store) where
-  pub first-length : length (take n store) ≡ n
-  first-length = length-take-le n store h
-
-  -- the changed area in front of the rest of the store
-  pub store-is : (area : List ℕ) → length area ≡ length (take n store) → area ++ drop n store ≡ laidOver area store
-  store-is area e =
-      let size : length area ≡ n = e ∙ first-length in
-      rw (take-all (length store) area (omega arith), size)
-
-  -- an area that stays as it is
-  pub store-same : store ≡ laidOver (take n store) store
-  store-same = sym (take-append-drop n store) ∙ store-is (take n store) refl
-
--- the first n bytes of a store, or all where it has fewer
-pub first-is : (store : List ℕ) (n k : ℕ) → k ≡ min n (length store) → take k store ≡ take n store
-first-is store n k e = elim (decLe n (length store)) [
-  | yes l ↦ let same : k ≡ n = omega arith in ap (λ (j : ℕ). take j store) same
-  | no l ↦ take-all k store (omega arith) ∙ sym (take-all n store (omega arith))
-]
-
--- an area in front of a store that is long enough
-module _ (area store : List ℕ) (h : length area ≤ length store) where
-  in-front : laidOver area store ≡ area ++ drop (length area) store
-  in-front = ap (λ (l : List ℕ). l ++ drop (length area) store) (take-all (length store) area h)
-
-  pub front-is : take (length area) (laidOver area store) ≡ area
-  front-is = ap (take (length area)) in-front ∙ take-append-seam area (drop (length area) store)
-
-  pub front-length : length (laidOver area store) ≡ length store
-  front-length = ap (λ (l : List ℕ). length l) in-front ∙ length-append area (drop (length area) store) ∙ omega (arith, length-drop (length area) store)
-
--- ---- the answer and the area, by the act of a command
-
-module _ (c : Command) (line : List ℕ) (b : Bench) (area : List ℕ) (act : AreaAct) (e : act ≡ areaAct (effectOf c)) where
-  pub answer-is : (refusal : ℕ) (heard : Command) → heard ≡ heardBy act c line area → answerBy act heard refusal line b area ≡ areaAnswer c refusal line b area
-  unfolding areaAnswer
-  answer-is refusal heard f =
-      ap (λ (h : Command). answerBy act h refusal line b area) f
-      ∙ ap (λ (a : AreaAct). answerBy a (heardBy a c line area) refusal line b area) e
-
-  pub after-is : areaBy act line b area ≡ areaAfter line c b area
-  after-is = ap (λ (a : AreaAct). areaBy a line b area) e
-
--- ---- how long the area is after a line
 
 module _ (line : List ℕ) (b : Bench) (area : List ℕ) (h : length area ≤ 2048) where
   by-command : (c : Command) → ((n : ℕ) → c ≡ Command.Area n → n ≤ 2048) → length (areaAfter line c b area) ≤ 2048

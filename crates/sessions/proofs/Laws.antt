@@ -12,8 +12,10 @@ use Rattle.scripts.specs.declared.Command.{Command}
 use Rattle.bench.specs.declared.Bench.{Bench}
 use Rattle.bench.specs.Holds.{powerOn}
 use Rattle.sessions.specs.declared.Session.{Session}
-use Rattle.sessions.specs.Acts.{benchAfter, effectOf, watchAfter}
-use Rattle.sessions.specs.Areas.{areaAfter, areaAnswer}
+use Rattle.acts.specs.Acts.{benchAfter, effectOf}
+use Rattle.areas.specs.Areas.{areaAnswer}
+use Rattle.areas.proofs.Areas.{front-is, front-length}
+use Rattle.sessions.specs.Effects.{watchAfter, areaAfter}
 use Rattle.sessions.specs.Script.{linesOf, ending, asked, carried, carriedArea, watched}
 use Rattle.sessions.specs.Sessions.{beginning, areaIn, lineText, lineCommand, oneMore, goesOn, carriedOut, storeCarried, byteTaken, roomAfter, storeAfter}
 use Rattle.sessions.specs.Sessions.{scriptEnded, storeEnded, fed, fedAll}
@@ -21,7 +23,7 @@ use Rattle.sessions.specs.Laws.{SessionLaws}
 use Rattle.sessions.proofs.Lines.{split, after, after-nil, after-byte}
 use Rattle.sessions.proofs.Clicks.{turns}
 use Rattle.sessions.proofs.Rooms.{Holds, nothing-held, line-does, one-more}
-use Rattle.sessions.proofs.Areas.{front-is, front-length, after-fits}
+use Rattle.sessions.proofs.Areas.{after-fits}
 
 -- ---- one byte
 

@@ -1,6 +1,4 @@
-pub mod Damage
-pub mod Acts
-pub mod Areas
+pub mod Effects
 pub mod Script
 pub mod Sessions
 pub mod Laws

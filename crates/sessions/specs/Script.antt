@@ -8,8 +8,8 @@ use Rattle.scripts.specs.Commands.{commandOf}
 use Rattle.scripts.specs.declared.Command.{Command}
 use Rattle.bench.specs.declared.Bench.{Bench}
 use Rattle.bench.specs.Holds.{powerOn}
-use Rattle.sessions.specs.Acts.{benchAfter, effectOf, watchAfter}
-use Rattle.sessions.specs.Areas.{areaAfter}
+use Rattle.acts.specs.Acts.{benchAfter, effectOf}
+use Rattle.sessions.specs.Effects.{watchAfter, areaAfter}
 
 -- ---- lines
 

@@ -10,12 +10,13 @@ use Rattle.scripts.specs.Commands.{commandOf}
 use Rattle.scripts.specs.declared.Command.{Command}
 use Rattle.bench.specs.Holds.{powerOn}
 use Rattle.calls.specs.declared.answers.EventAnswer.{EventAnswer}
-use Rattle.sessions.specs.declared.acts.Effect.{Effect}
-use Rattle.sessions.specs.declared.area.AreaAnswer.{AreaAnswer}
+use Rattle.acts.specs.declared.Effect.{Effect}
+use Rattle.acts.specs.Acts.{answerTo, effectOf}
+use Rattle.areas.specs.declared.AreaAnswer.{AreaAnswer}
+use Rattle.areas.specs.Areas.{areaAnswer}
 use Rattle.sessions.specs.declared.Session.{Session}
 use Rattle.sessions.specs.declared.Taken.{Taken}
-use Rattle.sessions.specs.Acts.{answerTo, effectOf, watchAfter, isDrawn}
-use Rattle.sessions.specs.Areas.{areaAfter, areaAnswer}
+use Rattle.sessions.specs.Effects.{watchAfter, isDrawn, areaAct, areaAfter}
 
 -- a session begins with the bench of power-on, no line, the watch off and an empty area
 abbrev pub beginning : Session
@@ -49,7 +50,7 @@ answered line watch effect a done = record {
 unfoldable pub carriedOut : Session → List ℕ → Command → List ℕ → Taken
 carriedOut s line c store =
     answered ((s .lines + 1) % 2 ^ 64) (s .watch) (effectOf c) (answerTo c (s .bench))
-    (areaAnswer c (answerTo c (s .bench) .refusal) line (s .bench) (areaIn s store))
+    (areaAnswer (areaAct (effectOf c)) c (answerTo c (s .bench) .refusal) line (s .bench) (areaIn s store))
 
 -- the store then has the area in front
 unfoldable pub storeCarried : Session → List ℕ → Command → List ℕ → List ℕ

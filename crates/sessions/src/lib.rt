@@ -1,8 +1,6 @@
 // What a script does to a bench and a bus area, from its bytes: lines are put together, and each is carried
 // out on what the one before it left. Nothing is read or written here.
-mod acts;
-mod area;
-mod damage;
+mod effects;
 
 ghost use mathlib.Core.Path.{_≡_};
 ghost use Rattle.sessions.specs.Sessions.{beginning, areaIn, lineCommand, lineText, carriedOut, storeCarried, goesOn, oneMore, byteTaken, roomAfter, storeAfter};
@@ -75,13 +73,14 @@ fn carry_out(s: Session, command: Command, text: &[u8], store: &mut [u8]) -> Tak
     let a = acts::answer_to(b, command);
     let bench = a.bench;
     let effect = acts::effect_of(command);
-    let done = area::answer_in(command, a.refusal, text, b, store, s.area);
+    let act = effects::area_act(effect);
+    let done = areas::answer_in(act, command, a.refusal, text, b, store, s.area);
     let heard = done.command;
     let session = Session {
         bench,
         lines,
         length: 0,
-        watch: acts::watch_after(effect, s.watch),
+        watch: effects::watch_after(effect, s.watch),
         area: done.length,
     };
     Taken {
@@ -89,7 +88,7 @@ fn carry_out(s: Session, command: Command, text: &[u8], store: &mut [u8]) -> Tak
         command: heard,
         refusal: done.refusal,
         event: a.event,
-        drawn: acts::is_drawn(effect, s.watch),
+        drawn: effects::is_drawn(effect, s.watch),
     }
 }
 

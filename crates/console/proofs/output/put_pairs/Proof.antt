@@ -2,7 +2,7 @@
 use Prim.Native.Nat.{_≤_, _-_}
 use borrow.Author.Needs.{needs}
 use lib.ListN.{length}
-use mathlib.Core.Path.{_≡_, refl, _∙_}
+use mathlib.Core.Path.{_≡_}
 use Rattle.console.proofs.output.put_pairs.Statement.{statement}
 use Rattle.console.proofs.output.put_pairs.Tie as tie
 
