@@ -22,7 +22,7 @@ pub enum Coded {
 }
 
 // The sets by their codes: lateral law, vertical law and armed sum, a hexadecimal digit each.
-const SHOWN: [u64; 108] = [
+const SHOWN: [u16; 108] = [
     0x000,
     0x114,
     0x124,
@@ -287,12 +287,18 @@ fn set_shown(lateral: u64, vertical: u64, armed: u64) -> ModeSet
     ModeSet::On(modes_by(lateral, armed % 4, vertical, 8 <= armed))
 }
 
+fn wide(x: u16) -> u64
+    ensures { λ res. ⌜ res ≡ x ⌝ }
+{
+    x as u64
+}
+
 // The entry of a code in the table.
 fn shown(code: usize) -> u64
     requires { ⌜ code < 108 ⌝ }
     ensures { λ res. ⌜ res ≡ getD (map digitsOf codedSets) code 0 ⌝ }
 {
-    SHOWN[code]
+    wide(SHOWN[code])
 }
 
 // The set of a code, from 0 to 107.
