@@ -1,4 +1,4 @@
--- Soundness by its parts: what a sound bench says of PF, of each channel and of each reading, and the way back. Assumes nothing.
+-- Soundness by its parts: what a sound bench says of PF, of each channel, of each reading and of independent operation, and the way back. Assumes nothing.
 use mathlib.Core.Path.{_≡_, refl}
 use mathlib.Core.Bool.{Bool, true, false, _&&_, cond, and-eq-true-iff}
 use Prim.Native.Nat.{ℕ, zero, suc, _≤_}
@@ -10,6 +10,7 @@ use Rattle.bench.specs.declared.Channel.{Channel}
 use Rattle.bench.specs.declared.Readings.{Readings}
 use Rattle.bench.specs.declared.Reading.{Reading}
 use Rattle.bench.specs.declared.Bench.{Bench}
+use Rattle.bench.specs.Independent.{independentSound}
 use Rattle.bench.specs.Sound.{inRange, referencesSound, channelSound, valid, readingsSound, sound}
 
 -- what holds of x if t is true, and of y if it is false, holds of the one that t picks
@@ -48,8 +49,8 @@ pub record ReadingsIn (w : Readings) : Type 0 where
   pub pitch : valid (Reading.Pitch (w .pitch)) ≡ true
   pub heading : valid (Reading.Heading (w .heading)) ≡ true
 
--- a sound bench
-pub record SoundIn (b : Bench) : Type 0 where
+-- a bench that is sound but for independent operation: a call passes through such benches before it ends that
+pub record PartsIn (b : Bench) : Type 0 where
   pub pf : leb (b .shared .pf) 1 ≡ true
   pub left : ChannelIn (b .left)
   pub right : ChannelIn (b .right)
@@ -100,10 +101,14 @@ readings-whole : (w : Readings) → ReadingsIn w → readingsSound w ≡ true
 unfolding readingsSound
 readings-whole w h = cc
 
-pub parts : (b : Bench) → sound b ≡ true → SoundIn b
+pub parts : (b : Bench) → sound b ≡ true → PartsIn b
 unfolding sound
-parts b h = search (and-left, and-right, channel-parts, readings-parts) depth 8
+parts b h = search (and-left, and-right, channel-parts, readings-parts) depth 9
 
-pub whole : (b : Bench) → SoundIn b → sound b ≡ true
+pub independent-part : (b : Bench) → sound b ≡ true → independentSound b ≡ true
 unfolding sound
-whole b h = search (and-both, channel-whole, readings-whole) depth 8
+independent-part b h = search (and-left, and-right) depth 9
+
+pub whole : (b : Bench) → PartsIn b → independentSound b ≡ true → sound b ≡ true
+unfolding sound
+whole b h k = search (and-both, channel-whole, readings-whole) depth 9

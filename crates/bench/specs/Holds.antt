@@ -23,10 +23,10 @@ startReadings = record {
   heading = ofBits binary64 0;
 }
 
--- left has PF, neither AP nor the flag is on, and all four counts are 0
+-- left has PF, neither AP nor the overspeed flag nor independent operation is on, and all four counts are 0
 unfoldable pub powerOn : Bench
 powerOn = record {
-  shared = record { pf = 0; ap = false; overspeed = false };
+  shared = record { pf = 0; ap = false; overspeed = false; independent = false };
   counts = record { wheel = 0; altitude = 0; speed = 0; heading = 0 };
   readings = startReadings;
   left = startChannel;

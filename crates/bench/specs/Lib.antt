@@ -3,6 +3,7 @@ pub mod Sides
 pub mod Holds
 pub mod Ranges
 pub mod Readings
+pub mod Independent
 pub mod Sound
 pub mod Laws
 pub mod Wholes

@@ -119,10 +119,13 @@ withReference n x r = record {
 abbrev pub zeroReferences : References
 zeroReferences = record { heading = pos 0; preselected = pos 0; held = pos 0; «vertical_speed» = pos 0; ias = pos 0; roll = pos 0; pitch = pos 0 }
 
--- ---- the shared part with PF on another side
+-- ---- the shared part with PF on another side, with independent operation on or off
 
 abbrev pub withPf : ℕ → Shared → Shared
-withPf x s = record { pf = x; ap = s .ap; overspeed = s .overspeed }
+withPf x s = record { pf = x; ap = s .ap; overspeed = s .overspeed; independent = s .independent }
+
+abbrev pub withIndependent : Bool → Shared → Shared
+withIndependent x s = record { pf = s .pf; ap = s .ap; overspeed = s .overspeed; independent = x }
 
 -- ---- counts, by the number of the knob, 0 to 3 in the order of the fields
 

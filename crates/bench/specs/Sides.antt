@@ -1,5 +1,5 @@
 -- The two sides: 0 is the left one, 1 the right one. Document 01, 'What a bench value holds'.
-use mathlib.Core.Bool.{Bool, cond}
+use mathlib.Core.Bool.{Bool, _||_, cond}
 use Prim.Native.Nat.{ℕ}
 use lib.Dec.{eqb}
 use Rattle.bench.specs.declared.Channel.{Channel}
@@ -24,9 +24,9 @@ inbox b s = box (inboxOf s) b
 
 -- ---- which sides act
 
--- whether a side acts in a call: the PF side does, which is document 01's active side
+-- whether a side acts in a call: the PF side does, which is document 01's active side, and in independent operation (document 02, 2026-03) both do
 unfoldable pub acts : Bench → ℕ → Bool
-acts b s = eqb s (b .shared .pf)
+acts b s = eqb s (b .shared .pf) || b .shared .independent
 
 -- a change of one side, made where that side acts
 abbrev pub whereActing : (ℕ → Bench → Bench) → ℕ → Bench → Bench

@@ -1,4 +1,4 @@
--- Sound benches: those that refusal 1 does not name. Document 01, 'Who can be turned away'.
+-- Sound benches: those that refusal 1 does not name. Document 01, 'Who can be turned away'; document 02, 2026-03, adds independent operation.
 use mathlib.Core.Bool.{Bool, _&&_}
 use Prim.Native.Nat.{ℕ}
 use lib.Dec.{eqb, leb}
@@ -11,6 +11,7 @@ use Rattle.bench.specs.declared.Bench.{Bench}
 use Rattle.bench.specs.Parts.{reference, box}
 use Rattle.bench.specs.Ranges.{within, referenceRange}
 use Rattle.bench.specs.Readings.{refusalOf}
+use Rattle.bench.specs.Independent.{independentSound}
 
 -- the reference at a place is within its range
 abbrev pub inRange : ℕ → References → Bool
@@ -34,4 +35,4 @@ readingsSound w =
 unfoldable pub sound : Bench → Bool
 sound b =
     leb (b .shared .pf) 1 && channelSound (box 0 b) && channelSound (box 1 b) && channelSound (box 2 b) && channelSound (box 3 b)
-    && readingsSound (b .readings)
+    && readingsSound (b .readings) && independentSound b

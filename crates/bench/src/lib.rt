@@ -5,6 +5,7 @@ pub mod parts;
 pub mod ranges;
 
 use modes::ModeSet;
+use modes::sets::engages_approach;
 use parts::HEADING;
 use parts::HELD;
 use parts::IAS;
@@ -22,14 +23,17 @@ ghost use lib.Dec.{eqb};
 ghost use Rattle.bench.specs.Parts.{box};
 ghost use Rattle.bench.specs.Holds.{powerOn, startChannel};
 ghost use Rattle.bench.specs.Sides.{acts, otherSide};
+ghost use Rattle.bench.specs.Independent.{bothApproach, independentSound};
 ghost use Rattle.bench.specs.Readings.{wholeReading, judged};
 ghost use Rattle.bench.specs.Sound.{referencesSound, channelSound, readingsSound, sound};
 
-// What the two sides share and an event can change: the PF side, AP and the overspeed flag.
+// What the two sides share and an event can change: the PF side, AP, the overspeed flag, and whether
+// independent operation is on, in which both sides act.
 pub struct Shared {
     pub pf: u32,
     pub ap: bool,
     pub overspeed: bool,
+    pub independent: bool,
 }
 
 // What modes aim for, in degrees, feet, hundreds of feet a minute, knots. Their places are 0 to 6
@@ -111,6 +115,7 @@ pub fn power_on() -> Bench
             pf: 0,
             ap: false,
             overspeed: false,
+            independent: false,
         },
         counts: Counts {
             wheel: 0,
@@ -148,7 +153,27 @@ pub fn side_acts(b: Bench, side: u32) -> bool
     ensures { λ res. ⌜ res ≡ acts b side ⌝ }
 {
     let shared = b.shared;
-    side == shared.pf
+    (side == shared.pf) | shared.independent
+}
+
+// Whether both sides have LAPPR and VAPPR engaged.
+pub fn both_approach(b: Bench) -> bool
+    ensures { λ res. ⌜ res ≡ bothApproach b ⌝ }
+{
+    let left = box_of(b, 0);
+    let right = box_of(b, 1);
+    let left_set = left.set;
+    let right_set = right.set;
+    engages_approach(left_set) & engages_approach(right_set)
+}
+
+// Whether independent operation is off, or both sides have what it needs.
+pub fn independent_sound(b: Bench) -> bool
+    ensures { λ res. ⌜ res ≡ independentSound b ⌝ }
+{
+    let shared = b.shared;
+    let both = both_approach(b);
+    !shared.independent | both
 }
 
 // Whether each reference is in its range.
@@ -210,5 +235,6 @@ pub fn is_sound(b: Bench) -> bool
     let left_inbox = box_sound(b, 2);
     let right_inbox = box_sound(b, 3);
     let feed = readings_sound(readings);
-    (shared.pf <= 1) & left & right & left_inbox & right_inbox & feed
+    let independent = independent_sound(b);
+    (shared.pf <= 1) & left & right & left_inbox & right_inbox & feed & independent
 }

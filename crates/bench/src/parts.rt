@@ -8,7 +8,7 @@ use crate::References;
 use crate::Shared;
 use modes::ModeSet;
 ghost use mathlib.Core.Path.{_≡_};
-ghost use Rattle.bench.specs.Parts.{withShared, withCounts, withReadings, box, withBox, withFd, withSet, withReferences, withPf, reference, withReference, zeroReferences, countOf, withCount};
+ghost use Rattle.bench.specs.Parts.{withShared, withCounts, withReadings, box, withBox, withFd, withSet, withReferences, withPf, withIndependent, reference, withReference, zeroReferences, countOf, withCount};
 ghost use Rattle.bench.specs.Sides.{inboxOf};
 
 // The places of the references.
@@ -131,6 +131,14 @@ pub fn with_pf(s: Shared, pf: u32) -> Shared
 {
     let mut next = s;
     next.pf = pf;
+    next
+}
+
+pub fn with_independent(s: Shared, on: bool) -> Shared
+    ensures { λ res. ⌜ res ≡ withIndependent on s ⌝ }
+{
+    let mut next = s;
+    next.independent = on;
     next
 }
 

@@ -1,5 +1,5 @@
 -- The calls as data: which are turned away, in what order, what the others do, and what each answers. Document 01, 'Event words', 'Sends, refreshes, knobs', 'Readings',
--- 'Display' and 'Who can be turned away'.
+-- 'Display' and 'Who can be turned away'; document 02, 2026-03, for bit 20 and for what ends independent operation.
 use mathlib.Core.Bool.{cond}
 use Prim.Native.Nat.{ℕ}
 use lib.Dec.{eqb, leb}
@@ -9,6 +9,7 @@ use Rattle.bench.specs.declared.Reading.{Reading}
 use Rattle.bench.specs.declared.Bench.{Bench}
 use Rattle.bench.specs.Parts.{withReadings}
 use Rattle.bench.specs.Readings.{refusalOf, stored}
+use Rattle.bench.specs.Independent.{ended}
 use Rattle.bench.specs.Sound.{sound}
 use Rattle.steps.specs.Steps.{acted}
 use Rattle.knobs.specs.Knobs.{turned}
@@ -41,9 +42,9 @@ sideRefusal s = cond (leb s 1) 0 2
 abbrev pub knobRefusal : ℕ → ℕ
 knobRefusal knob = cond (leb knob 3) 0 3
 
--- 4 where a bit past those of the events is set, so that the word is 2 ^ 20 = 1048576 or more
+-- 4 where a bit past those of the events is set, so that the word is 2 ^ 21 = 2097152 or more
 abbrev pub wordRefusal : ℕ → ℕ
-wordRefusal word = cond (leb 1048576 word) 4 0
+wordRefusal word = cond (leb 2097152 word) 4 0
 
 -- the refusal, 2 to 6, that a call's own arguments give it, and 0 if none does
 abbrev pub ownRefusal : Call → ℕ
@@ -79,9 +80,9 @@ done (display s) b = b
 abbrev pub ifAccepted : {A : Type 0} → Bench → Call → A → A → A
 ifAccepted b c x y = cond (eqb (refusal b c) 0) x y
 
--- the bench after a call: a refused one leaves it as it came
+-- the bench after a call: an accepted one ends independent operation where it took a mode of the approach from a side, and a refused one leaves the bench as it came
 unfoldable pub next : Bench → Call → Bench
-next b c = ifAccepted b c (done c b) b
+next b c = ifAccepted b c (ended (done c b)) b
 
 -- a turn, a reading, a send or a refresh
 unfoldable pub answer : Bench → Call → Answer

@@ -19,10 +19,11 @@ ghost use mathlib.Core.Path.{_≡_};
 ghost use mathlib.Core.Bool.{cond};
 ghost use Rattle.bench.specs.Readings.{judged};
 ghost use Rattle.bench.specs.Sides.{inboxOf};
+ghost use Rattle.bench.specs.Independent.{ended};
 ghost use Rattle.bench.specs.Sound.{sound};
 ghost use Rattle.calls.specs.Displays.{pfLamp, lamps, shown, blank};
 ghost use Rattle.calls.specs.Calls.{Call, sideRefusal, knobRefusal, wordRefusal, answer, eventAnswer, displayAnswer};
-ghost use Rattle.calls.specs.Private.{receivedAs};
+ghost use Rattle.calls.specs.Private.{accepting, receivedAs};
 ghost use Rattle.calls.specs.Sends.{sent, taken, refreshed};
 
 // The refusal of a call whose own arguments give `own`: 1, of an unsound bench, goes before it.
@@ -51,7 +52,29 @@ fn knob_refusal(knob: u32) -> u32
 fn word_refusal(word: u32) -> u32
     ensures { λ res. ⌜ res ≡ wordRefusal word ⌝ }
 {
-    if 1048576 <= word { 4 } else { 0 }
+    if 2097152 <= word { 4 } else { 0 }
+}
+
+// What an accepted call leaves: independent operation is over where it took a mode of the approach
+// from a side.
+fn end_independent(b: Bench) -> Bench
+    ensures { λ res. ⌜ res ≡ ended b ⌝ }
+{
+    let shared = b.shared;
+    let goes_on = bench::independent_sound(b);
+    if goes_on {
+        b
+    } else {
+        bench::parts::with_shared(b, bench::parts::with_independent(shared, false))
+    }
+}
+
+// The answer of an accepted call that answers nothing but its bench.
+fn accept(b: Bench) -> Answer
+    ensures { λ res. ⌜ res ≡ accepting b ⌝ }
+{
+    let bench = end_independent(b);
+    Answer { refusal: 0, bench }
 }
 
 // An event word: its lowest set bit names the event.
@@ -67,7 +90,8 @@ pub fn event(b: Bench, word: u32) -> EventAnswer
         };
     }
     let number = u32::trailing_zeros(word);
-    let bench = steps::act(events::event_at(number), b);
+    let next = steps::act(events::event_at(number), b);
+    let bench = end_independent(next);
     EventAnswer {
         refusal: 0,
         event: number,
@@ -83,8 +107,7 @@ pub fn turn(b: Bench, knob: u32, new: u8) -> Answer
     if refusal != 0 {
         return Answer { refusal, bench: b };
     }
-    let bench = knobs::turn_to(b, knob, new);
-    Answer { refusal: 0, bench }
+    accept(knobs::turn_to(b, knob, new))
 }
 
 // The answer to a reading with this range and this whole value, which would leave these readings.
@@ -95,8 +118,7 @@ fn receive(b: Bench, range: Range, whole: Whole, next: Readings) -> Answer
     if refusal != 0 {
         return Answer { refusal, bench: b };
     }
-    let bench = bench::parts::with_readings(b, next);
-    Answer { refusal: 0, bench }
+    accept(bench::parts::with_readings(b, next))
 }
 
 // A reading of the air data feed. Each kind has its range and its field.
@@ -148,8 +170,7 @@ pub fn send(b: Bench, side: u32) -> Answer
     if refusal != 0 {
         return Answer { refusal, bench: b };
     }
-    let bench = post(b, side);
-    Answer { refusal: 0, bench }
+    accept(post(b, side))
 }
 
 // A side takes over the set and the references of a box; its flight director stays.
@@ -183,7 +204,7 @@ fn renew(b: Bench, side: u32) -> Bench
     }
 }
 
-// The passive side takes over what was sent to it last; the active side applies the On rule.
+// A side that does not act takes over what was sent to it last; one that acts applies the On rule.
 pub fn refresh(b: Bench, side: u32) -> Answer
     ensures { λ res. ⌜ res ≡ answer b (Call.refresh side) ⌝ }
 {
@@ -191,8 +212,7 @@ pub fn refresh(b: Bench, side: u32) -> Answer
     if refusal != 0 {
         return Answer { refusal, bench: b };
     }
-    let bench = renew(b, side);
-    Answer { refusal: 0, bench }
+    accept(renew(b, side))
 }
 
 fn pf_lamp(pf: u32) -> u32

@@ -1,4 +1,4 @@
--- No event has a number past 19. Assumes nothing.
+-- No event has a number past 20. Assumes nothing.
 use mathlib.Core.Path.{_≡_, sym}
 use Prim.Native.Nat.{ℕ, zero, suc, _≤_}
 use native.Mathlib.Omega.{arith}
@@ -15,5 +15,5 @@ past : (n k : ℕ) → Apart n k → k ≤ n
 past n zero h = omega arith
 past n (suc k) h = let l = past n k (h .0) in let d = h .1 in omega arith
 
-pub no-event : (n : ℕ) → Apart n 20 → Event.NoEvent ≡ eventAt n
-no-event n h = sym (pick-past Event.NoEvent numbered n (past n 20 h))
+pub no-event : (n : ℕ) → Apart n 21 → Event.NoEvent ≡ eventAt n
+no-event n h = sym (pick-past Event.NoEvent numbered n (past n 21 h))

@@ -36,6 +36,7 @@ pub fn event_at(number: u32) -> Event
         17 => Event::VsSwitch,
         18 => Event::FlcSwitch,
         19 => Event::AltSwitch,
+        20 => Event::IndependentSwitch,
         _ => Event::NoEvent,
     }
 }

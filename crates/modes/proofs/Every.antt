@@ -66,6 +66,7 @@ back-events Event.ApprSwitch = refl
 back-events Event.VsSwitch = refl
 back-events Event.FlcSwitch = refl
 back-events Event.AltSwitch = refl
+back-events Event.IndependentSwitch = refl
 back-events Event.NoEvent = refl
 
 abbrev pub events : Finite Event

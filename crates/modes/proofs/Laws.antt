@@ -38,9 +38,9 @@ counted k n [] t h = absurd (omega arith)
 counted k zero (e ∷ es) t h = let same = eqb→eq (eventNumber e) k (both-left (eqb (eventNumber e) k) (counts (suc k) es) t) in omega arith
 counted k (suc n) (e ∷ es) t h = let rest = counted (suc k) n es (both-right (eqb (eventNumber e) k) (counts (suc k) es) t) (omega arith) in omega arith
 
-none-idle : Idle (lineOf Event.NoEvent)
-none-idle =
-    record { ap = λ x. refl; flag = λ x. refl; transfers = refl; pressed = λ s. refl; asksFd = λ x y s. refl; change = λ flag m. refl }
+-- of both events that go through no steps
+idle : Idle (lineOf Event.NoEvent)
+idle = record { ap = λ x. refl; flag = λ x. refl; transfers = refl; pressed = λ s. refl; asksFd = λ x y s. refl; change = λ flag m. refl }
 
 pub mode-laws : ModeLaws
-mode-laws = record { coherent-sets = coherent-sets; change-coherent = change-coherent; event-back = back-events; number-back = λ n h. let e = counted 0 n numbered tt h in omega arith; none-idle = none-idle }
+mode-laws = record { coherent-sets = coherent-sets; change-coherent = change-coherent; event-back = back-events; number-back = λ n h. let e = counted 0 n numbered tt h in omega arith; none-idle = idle; independent-idle = idle }

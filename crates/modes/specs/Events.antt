@@ -1,4 +1,4 @@
--- The events, a line for each. Document 01, 'Event words'.
+-- The events, a line for each. Document 01, 'Event words'; document 02, 2026-03, has event 20.
 use mathlib.Core.Bool.{Bool, true, false, not, _&&_, _||_, cond}
 use mathlib.Core.List.{List, [], _∷_}
 use Prim.Native.Nat.{ℕ}
@@ -9,7 +9,7 @@ use Rattle.modes.specs.declared.ModeSet.{ModeSet}
 use Rattle.modes.specs.declared.Event.{Event}
 use Rattle.modes.specs.declared.Event.the-variants.{ApDisconnect, ApSwitch, OverspeedBegins, OverspeedEnds, GoAround, Transfer, FdSwitchLeft}
 use Rattle.modes.specs.declared.Event.the-variants.{FdSwitchRight, SourceChanged, NavCaptured, LapprCaptured, VapprCaptured, AltselCaptured, AltselOnTrack}
-use Rattle.modes.specs.declared.Event.the-variants.{HdgSwitch, NavSwitch, ApprSwitch, VsSwitch, FlcSwitch, AltSwitch, NoEvent}
+use Rattle.modes.specs.declared.Event.the-variants.{HdgSwitch, NavSwitch, ApprSwitch, VsSwitch, FlcSwitch, AltSwitch, IndependentSwitch, NoEvent}
 use Rattle.modes.specs.Finite.{pick}
 use Rattle.modes.specs.Numbers.{verticalNumber}
 use Rattle.modes.specs.Sets.{Mode, ROLL, HDG, NAV, LAPPR, LGA, PITCH, VS, FLC, ALT, ALTSEL, VAPPR}
@@ -19,9 +19,10 @@ use Rattle.modes.specs.Sets.{VGA, engaged, armed, cleared, engagedIn, se
 abbrev pub numbered : List Event
 numbered =
     ApDisconnect ∷ ApSwitch ∷ OverspeedBegins ∷ OverspeedEnds ∷ GoAround ∷ Transfer ∷ FdSwitchLeft ∷ FdSwitchRight ∷ SourceChanged ∷ NavCaptured
-    ∷ LapprCaptured ∷ VapprCaptured ∷ AltselCaptured ∷ AltselOnTrack ∷ HdgSwitch ∷ NavSwitch ∷ ApprSwitch ∷ VsSwitch ∷ FlcSwitch ∷ AltSwitch ∷ []
+    ∷ LapprCaptured ∷ VapprCaptured ∷ AltselCaptured ∷ AltselOnTrack ∷ HdgSwitch ∷ NavSwitch ∷ ApprSwitch ∷ VsSwitch ∷ FlcSwitch ∷ AltSwitch ∷ IndependentSwitch
+    ∷ []
 
--- the event of a number; past 19 there is none
+-- the event of a number; past 20 there is none
 abbrev pub eventAt : ℕ → Event
 eventAt n = pick NoEvent numbered n
 
@@ -47,10 +48,15 @@ eventNumber ApprSwitch = 16
 eventNumber VsSwitch = 17
 eventNumber FlcSwitch = 18
 eventNumber AltSwitch = 19
+eventNumber IndependentSwitch = 20
 eventNumber NoEvent = 32
 
 abbrev pub isNone : Event → Bool
 isNone e = eqb (eventNumber e) 32
+
+-- the switch of independent operation
+abbrev pub isIndependent : Event → Bool
+isIndependent e = eqb (eventNumber e) 20
 
 -- ---- what an event says of AP, the flag, PF and the flight directors, in the first step
 
@@ -164,7 +170,7 @@ pub record Line : Type 0 where
 abbrev line : (Bool → Bool) → (Bool → Bool) → Bool → (ℕ → Bool) → (Bool → Bool → ModeSet → Bool) → (Bool → Modes → Modes) → Line
 line a f t d q c = record { ap = a; flag = f; transfers = t; pressed = d; asksFd = q; change = c }
 
--- a line for each event; the columns are AP, the flag, PF, whose FD switch is pressed, when the active side's FD is set On, and the mode change
+-- a line for each event that goes through the three steps, and an idle one for the two that do not; the columns are AP, the flag, PF, whose FD switch is pressed, when the active side's FD is set On, and the mode change
 abbrev pub lineOf : Event → Line
 lineOf ApDisconnect = line off stays remains nobody never none
 lineOf ApSwitch = line toggles stays remains nobody whenApEngages none
@@ -186,4 +192,5 @@ lineOf ApprSwitch = line stays stays remains nobody (unlessSelected LAPPR) (eith
 lineOf VsSwitch = line stays stays remains nobody (unlessEngaged VS) (either (switch VS))
 lineOf FlcSwitch = line stays stays remains nobody (unlessEngaged FLC) switchFlc
 lineOf AltSwitch = line stays stays remains nobody (unlessEngaged ALT) (either (switch ALT))
+lineOf IndependentSwitch = line stays stays remains nobody never none
 lineOf NoEvent = line stays stays remains nobody never none

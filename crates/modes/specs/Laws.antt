@@ -24,8 +24,9 @@ pub record ModeLaws : Type 0 where
   pub coherent-sets : countModes coherent ≡ 107
   -- every mode change keeps a coherent set coherent
   pub change-coherent : (e : Event) (flag : Bool) (m : Modes) → T (implies (coherent m) (coherent (lineOf e .change flag m)))
-  -- the event of an event's number is that event, and the number of a number's event is that number: 0 to 19 and 32 stand for one event each
+  -- the event of an event's number is that event, and the number of a number's event is that number: 0 to 20 and 32 stand for one event each
   pub event-back : (e : Event) → eventAt (eventNumber e) ≡ e
-  pub number-back : (n : ℕ) → n < 20 → eventNumber (eventAt n) ≡ n
-  -- 'no event' is an event that does nothing
+  pub number-back : (n : ℕ) → n < 21 → eventNumber (eventAt n) ≡ n
+  -- 'no event' changes nothing by its line, and neither does event 20, which goes through no steps
   pub none-idle : Idle (lineOf Event.NoEvent)
+  pub independent-idle : Idle (lineOf Event.IndependentSwitch)

@@ -182,6 +182,10 @@ abbrev pub engagedIn : Mode → ModeSet → Bool
 engagedIn x ModeSet.Off = false
 engagedIn x (ModeSet.On m) = engaged x m
 
+-- both approach modes are engaged: the pair that independent operation stands on (document 02, 2026-03)
+abbrev pub approachEngaged : ModeSet → Bool
+approachEngaged s = engagedIn LAPPR s && engagedIn VAPPR s
+
 -- armed or engaged
 abbrev pub selectedIn : Mode → ModeSet → Bool
 selectedIn x ModeSet.Off = false

@@ -43,7 +43,7 @@ pub enum ModeSet {
     On(Modes),
 }
 
-// The events in the order of their numbers, 0 to 19, and none.
+// The events in the order of their numbers, 0 to 20, and none.
 pub enum Event {
     ApDisconnect,
     ApSwitch,
@@ -65,5 +65,6 @@ pub enum Event {
     VsSwitch,
     FlcSwitch,
     AltSwitch,
+    IndependentSwitch,
     NoEvent,
 }

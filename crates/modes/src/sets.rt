@@ -9,7 +9,7 @@ use crate::numbers::arms_nav;
 use crate::numbers::lateral_law;
 use crate::numbers::vertical_law;
 ghost use mathlib.Core.Path.{_≡_};
-ghost use Rattle.modes.specs.Sets.{HDG, NAV, LAPPR, VS, FLC, ALT, basicModes, coherent, coherentSet, engagedIn, selectedIn};
+ghost use Rattle.modes.specs.Sets.{HDG, NAV, LAPPR, VS, FLC, ALT, basicModes, coherent, coherentSet, engagedIn, selectedIn, approachEngaged};
 ghost use Rattle.modes.specs.Private.{isNav, isLappr, isVappr, vapprAgrees, armedAgrees};
 
 // ROLL and PITCH with no mode armed but ALTSEL: the set of a side that comes on.
@@ -166,6 +166,21 @@ pub fn engages_alt(s: ModeSet) -> bool
     let law = vertical_law(s);
     match law {
         4 => true,
+        _ => false,
+    }
+}
+
+// Whether LAPPR, law 4, and VAPPR, law 7, are both engaged.
+pub fn engages_approach(s: ModeSet) -> bool
+    ensures { λ res. ⌜ res ≡ approachEngaged s ⌝ }
+{
+    let lateral = lateral_law(s);
+    let vertical = vertical_law(s);
+    match lateral {
+        4 => match vertical {
+            7 => true,
+            _ => false,
+        },
         _ => false,
     }
 }

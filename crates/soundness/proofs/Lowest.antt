@@ -55,20 +55,20 @@ names-lowest w h = record { set = set-bit 32 w h; below-clear = below 32 w }
 pub names-none : (w : ℕ) → trailingZeros 32 w ≡ 32 → (j : ℕ) → j < 32 → bit j w ≡ 0
 names-none w e j h = below 32 w j (rw e h)
 
--- a word that refusal 4 lets pass names an event from 0 to 19, or none
-pub names-event : (w : ℕ) → w < 1048576 → trailingZeros 32 w < 32 → trailingZeros 32 w < 20
+-- a word that refusal 4 lets pass names an event from 0 to 20, or none
+pub names-event : (w : ℕ) → w < 2097152 → trailingZeros 32 w < 32 → trailingZeros 32 w < 21
 names-event w h l = go (trailingZeros 32 w) (set-bit 32 w l)
   where
-    -- bit n is 1, and from 20 on every bit is 0
-    past : (n : ℕ) → bit n w ≡ 1 → 20 ≤ n → ⊥
-    past n e k = let d : n - 20 + 20 ≡ n = omega arith in let z : bit n w ≡ 0 = rw d at (high-clear (n - 20) 20 w h) in omega arith
+    -- bit n is 1, and from 21 on every bit is 0
+    past : (n : ℕ) → bit n w ≡ 1 → 21 ≤ n → ⊥
+    past n e k = let d : n - 21 + 21 ≡ n = omega arith in let z : bit n w ≡ 0 = rw d at (high-clear (n - 21) 21 w h) in omega arith
 
-    go : (n : ℕ) → bit n w ≡ 1 → n < 20
-    go n e = decide (leb 20 n) refl
+    go : (n : ℕ) → bit n w ≡ 1 → n < 21
+    go n e = decide (leb 21 n) refl
       where
-        decide : (t : Bool) → leb 20 n ≡ t → n < 20
-        decide true f = absurd (past n e (leb-true 20 n f))
-        decide false f = leb-false 20 n f
+        decide : (t : Bool) → leb 21 n ≡ t → n < 21
+        decide true f = absurd (past n e (leb-true 21 n f))
+        decide false f = leb-false 21 n f
 
 pub names : (w : ℕ) → NamesLowest w
 names w = record { lowest = names-lowest w; none = names-none w; event = names-event w }

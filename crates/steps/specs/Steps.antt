@@ -1,20 +1,27 @@
--- The three steps of an event. Document 01, 'Event words'. A step is written for a side that is given; `acts` of bench/specs/Sides.antt says which sides act.
-use mathlib.Core.Bool.{Bool, true, _&&_, _||_, cond}
+-- The three steps of an event, and the two events without them. Document 01, 'Event words'; document 02, 2026-03. A step is written for a side that is given; `acts` of bench/specs/Sides.antt says which sides act.
+use mathlib.Core.Bool.{Bool, true, false, _&&_, _||_, cond}
 use Prim.Native.Nat.{ℕ}
 use Rattle.modes.specs.declared.ModeSet.{ModeSet}
 use Rattle.modes.specs.declared.Event.{Event}
 use Rattle.modes.specs.Sets.{basicModes, inOn}
-use Rattle.modes.specs.Events.{isNone, lineOf}
+use Rattle.modes.specs.Events.{isNone, isIndependent, lineOf}
 use Rattle.bench.specs.declared.Shared.{Shared}
 use Rattle.bench.specs.declared.Bench.{Bench}
 use Rattle.bench.specs.Parts.{withShared, withBox, withFd}
 use Rattle.bench.specs.Sides.{otherSide, side, inbox, acts, onActing}
+use Rattle.bench.specs.Independent.{begun}
 use Rattle.steps.specs.Entry.{settled}
 
 -- ---- the first step: flight directors, AP, flag and PF, all decided from the bench that came
 
+-- a transfer ends independent operation here, so that its later steps run on the side that takes over and on no other
 unfoldable pub sharedAfter : Event → Shared → Shared
-sharedAfter e s = record { pf = cond (lineOf e .transfers) (otherSide (s .pf)) (s .pf); ap = lineOf e .ap (s .ap); overspeed = lineOf e .flag (s .overspeed) }
+sharedAfter e s = record {
+  pf = cond (lineOf e .transfers) (otherSide (s .pf)) (s .pf);
+  ap = lineOf e .ap (s .ap);
+  overspeed = lineOf e .flag (s .overspeed);
+  independent = cond (lineOf e .transfers) false (s .independent);
+}
 
 -- a pressed flight director goes On from Off, and from On to Off unless the flag holds it
 abbrev pub toggledFd : Bool → Bool → Bool
@@ -63,7 +70,7 @@ laterSteps e flag s b = settled (thirdStep e flag (secondStep s b)) s b
 unfoldable pub threeSteps : Event → Bench → Bench
 threeSteps e b = onActing (laterSteps e (b .shared .overspeed)) (firstStep e b)
 
--- ---- an event, and none
+-- ---- an event: none does nothing, event 20 begins independent operation, and every other goes through the steps
 
 unfoldable pub acted : Event → Bench → Bench
-acted e b = cond (isNone e) b (threeSteps e b)
+acted e b = cond (isNone e) b (cond (isIndependent e) (begun b) (threeSteps e b))

@@ -19,6 +19,7 @@ use modes::numbers::vertical_law;
 ghost use mathlib.Core.Path.{_≡_};
 ghost use Rattle.modes.specs.Events.{lineOf};
 ghost use Rattle.bench.specs.Sides.{whereActing};
+ghost use Rattle.bench.specs.Independent.{begun};
 ghost use Rattle.steps.specs.Entry.{loaded, entry, settled};
 ghost use Rattle.steps.specs.Private.{lateralEntry, verticalEntry};
 ghost use Rattle.steps.specs.Steps.{sharedAfter, toggledFd, asksFor, fdAfter, withFdAfter, firstStep, isOn, comingOn, secondStep, thirdStep, laterSteps, threeSteps, acted};
@@ -92,7 +93,7 @@ pub fn settle(b: Bench, side: u32, after: ModeSet) -> Bench
     with_box(b, side, bench::parts::with_references(next, references))
 }
 
-// AP, flag and PF after an event.
+// AP, flag and PF after an event. A transfer ends independent operation.
 fn shared_after(e: Event, s: Shared) -> Shared
     ensures { λ res. ⌜ res ≡ sharedAfter e s ⌝ }
 {
@@ -104,12 +105,14 @@ fn shared_after(e: Event, s: Shared) -> Shared
             pf: bench::other_side(s.pf),
             ap,
             overspeed,
+            independent: false,
         }
     } else {
         Shared {
             pf: s.pf,
             ap,
             overspeed,
+            independent: s.independent,
         }
     }
 }
@@ -225,12 +228,26 @@ fn three_steps(e: Event, b: Bench) -> Bench
     later_steps(e, shared.overspeed, 1, left)
 }
 
+// Independent operation goes on if both sides have LAPPR and VAPPR engaged.
+fn begin_independent(b: Bench) -> Bench
+    ensures { λ res. ⌜ res ≡ begun b ⌝ }
+{
+    let shared = b.shared;
+    let both = bench::both_approach(b);
+    if both {
+        bench::parts::with_shared(b, bench::parts::with_independent(shared, true))
+    } else {
+        b
+    }
+}
+
 // The bench after an event; where there is none, nothing is done.
 pub fn act(e: Event, b: Bench) -> Bench
     ensures { λ res. ⌜ res ≡ acted e b ⌝ }
 {
     match e {
         Event::NoEvent => b,
+        Event::IndependentSwitch => begin_independent(b),
         _ => three_steps(e, b),
     }
 }

@@ -1,4 +1,4 @@
--- `calls::event` meets its contract: a word with a bit past 19 is refused, and of another the lowest event is acted on. Assumes nothing.
+-- `calls::event` meets its contract: a word with a bit past 20 is refused, and of another the lowest event is acted on. Assumes nothing.
 use mathlib.Core.Path.{_≡_, sym, _∙_}
 use lib.Count.{trailingZeros}
 use Rattle.calls.specs.Calls.{Call, refusal, eventAnswer}
@@ -19,12 +19,12 @@ returns c = λ i. record { refusal = found (c .before) i; event = if-refused _ _
 returns-2 : tie.Need-returns-2
 unfolding eventAnswer
 returns-2 c =
-    let at-test = c .before .before in
+    let at-test = c .before .before .before in
     let none = at-test .if1 .left in
     let at-found = at-test .before in
     let h = found at-found in
     let number = trailingZeros 32 (at-found .before .before .args .word) in
-    λ i. record { refusal = (sym none ∙ h) i; event = if-accepted _ _ h none number 32 i; bench = next-accepted _ _ _ h none {x = c .act .result} (simp (c .act .ensures, c .before .event-at .ensures)) i }
+    λ i. record { refusal = (sym none ∙ h) i; event = if-accepted _ _ h none number 32 i; bench = next-accepted _ _ _ h none {x = c .end-independent .result} (simp (c .end-independent .ensures, c .before .act .ensures, c .before .before .event-at .ensures)) i }
 
 pub event-spec : {M : Type 1} → statement M
-event-spec = tie.close (tie.spec (λ c κs. search needs) (λ c κs. search needs) returns (λ c κs. search needs) (λ c κs. search needs) returns-2)
+event-spec = tie.close (tie.spec (λ c κs. search needs) (λ c κs. search needs) returns (λ c κs. search needs) (λ c κs. search needs) (λ c κs. search needs) returns-2)

@@ -1,6 +1,7 @@
--- What the calls are made of keeps a sound bench sound: boxes and references, entry, the steps, knobs and readings. Assumes nothing.
+-- What the calls are made of keeps the parts of a sound bench sound: boxes and references, entry, the steps, knobs and readings; and what ends independent operation
+-- makes a bench sound that is so in its parts. Assumes nothing.
 use mathlib.Core.Path.{_≡_, refl, subst}
-use mathlib.Core.Bool.{Bool, true, _&&_, _||_, cond}
+use mathlib.Core.Bool.{Bool, true, false, _&&_, _||_, cond}
 use Prim.Native.Nat.{ℕ, _≤_}
 use native.Mathlib.Omega.{arith}
 use borrow.Author.Tests.{le-leb, eqb-true}
@@ -27,6 +28,7 @@ use Rattle.bench.specs.Parts.{withShared, withCounts, withReadings, box, withBo
 use Rattle.bench.specs.Ranges.{within, clamped, referenceRange}
 use Rattle.bench.specs.Readings.{stored, wholeNumber}
 use Rattle.bench.specs.Sides.{otherSide, inboxOf, side, acts, whereActing, onActing}
+use Rattle.bench.specs.Independent.{independentSound, withOperation, ended}
 use Rattle.bench.specs.Sound.{valid}
 use Rattle.bench.proofs.Replaced.{reference-read}
 use Rattle.steps.specs.Entry.{newly, loaded, loads, entry, enter, settled}
@@ -34,7 +36,7 @@ use Rattle.steps.specs.Steps.{sharedAfter, fdAfter, withFdAfter, firstStep, isO
 use Rattle.knobs.specs.Knobs.{moved, referred, referenceMoved, pitched, wheelTurned, altitudeMoved, preselectionChanges, altitudeTurned, headingMoved, headingTurned, knobTurned, counted, turned}
 use Rattle.calls.specs.Calls.{received}
 use Rattle.calls.specs.Sends.{sent, taken, refreshed}
-use Rattle.bench.proofs.SoundParts.{by-cond, and-both, ReferencesIn, ChannelIn, ReadingsIn, SoundIn}
+use Rattle.bench.proofs.SoundParts.{by-cond, and-both, ReferencesIn, ChannelIn, ReadingsIn, PartsIn}
 
 -- ---- boxes
 
@@ -42,19 +44,19 @@ use Rattle.bench.proofs.SoundParts.{by-cond, and-both, ReferencesIn, ChannelIn,
 either-sound : (t : Bool) (c d : Channel) → ChannelIn c → ChannelIn d → ChannelIn (cond t c d)
 either-sound t c d h k = by-cond ChannelIn t c d (λ e. h) (λ e. k)
 
-box-sound : (n : ℕ) (b : Bench) → SoundIn b → ChannelIn (box n b)
+box-sound : (n : ℕ) (b : Bench) → PartsIn b → ChannelIn (box n b)
 box-sound n b h = search either-sound
 
-with-box-sound : (n : ℕ) (c : Channel) (b : Bench) → ChannelIn c → SoundIn b → SoundIn (withBox n c b)
+with-box-sound : (n : ℕ) (c : Channel) (b : Bench) → ChannelIn c → PartsIn b → PartsIn (withBox n c b)
 unfolding withBox
 with-box-sound n c b k h = search either-sound
 
 -- a change of one side that keeps a bench sound may be made on every side that acts
-module _ (f : ℕ → Bench → Bench) (kept : (s : ℕ) (b : Bench) → SoundIn b → SoundIn (f s b)) where
-  where-sound : (s : ℕ) (b : Bench) → SoundIn b → SoundIn (whereActing f s b)
-  where-sound s b h = by-cond SoundIn (acts b s) (f s b) b (λ e. kept s b h) (λ e. h)
+module _ (f : ℕ → Bench → Bench) (kept : (s : ℕ) (b : Bench) → PartsIn b → PartsIn (f s b)) where
+  where-sound : (s : ℕ) (b : Bench) → PartsIn b → PartsIn (whereActing f s b)
+  where-sound s b h = by-cond PartsIn (acts b s) (f s b) b (λ e. kept s b h) (λ e. h)
 
-  acting-sound : (b : Bench) → SoundIn b → SoundIn (onActing f b)
+  acting-sound : (b : Bench) → PartsIn b → PartsIn (onActing f b)
   acting-sound b h = where-sound 1 (whereActing f 0 b) (where-sound 0 b h)
 
 -- ---- references
@@ -101,7 +103,7 @@ unfolding entry
 entry-in w before after r h = loads-in _ _ _ before after _ (loads-in _ _ _ before after _ (loads-in _ _ _ before after _ (loads-in _ _ _ before after _ (loads-in _ _ _ before after r h))))
 
 -- side s takes a coherent set, with entry
-settled-sound : (after : ModeSet) (s : ℕ) (b : Bench) → coherentSet after ≡ true → SoundIn b → SoundIn (settled after s b)
+settled-sound : (after : ModeSet) (s : ℕ) (b : Bench) → coherentSet after ≡ true → PartsIn b → PartsIn (settled after s b)
 unfolding settled enter withSet withReferences
 settled-sound after s b k h =
     with-box-sound s _ b (record { set = k; references = entry-in (b .readings) (side b s .set) after (side b s .references) (box-sound s b h .references) }) h
@@ -119,7 +121,7 @@ unfolding coherent once cleared armed engaged put disarm drop clear engage
 pitch-coherent m = at-modes (λ m. implies (coherent m) (coherent (engage PITCH m))) tt m
 
 -- the second step gives a coherent set
-second-coherent : (s : ℕ) (b : Bench) → SoundIn b → coherentSet (secondStep s b) ≡ true
+second-coherent : (s : ℕ) (b : Bench) → PartsIn b → coherentSet (secondStep s b) ≡ true
 unfolding secondStep
 second-coherent s b h =
     by-cond (λ (s : ModeSet). coherentSet s ≡ true) (isOn s b) (comingOn (side b s .set)) ModeSet.Off (λ e. on (side b s .set) (box-sound s b h .set)) (λ e. refl)
@@ -139,34 +141,34 @@ third-coherent e flag s h = kept-on (lineOf e .change flag) (change-coherent e f
 pf-kept : (t : Bool) (s : ℕ) → leb s 1 ≡ true → leb (cond t (otherSide s) s) 1 ≡ true
 pf-kept t s h = by-cond (λ (n : ℕ). leb n 1 ≡ true) t _ _ (λ e. by-cond (λ (n : ℕ). leb n 1 ≡ true) (eqb s 0) 1 0 (λ e. refl) (λ e. refl)) (λ e. h)
 
-shared-sound : (e : Event) (b : Bench) → SoundIn b → SoundIn (withShared (sharedAfter e (b .shared)) b)
+shared-sound : (e : Event) (b : Bench) → PartsIn b → PartsIn (withShared (sharedAfter e (b .shared)) b)
 unfolding withShared sharedAfter
 shared-sound e b h = search pf-kept
 
-fd-sound : (e : Event) (s : ℕ) (b x : Bench) → SoundIn b → SoundIn x → SoundIn (withFdAfter e s b x)
+fd-sound : (e : Event) (s : ℕ) (b x : Bench) → PartsIn b → PartsIn x → PartsIn (withFdAfter e s b x)
 unfolding withFdAfter withFd
 fd-sound e s b x h k = let c = box-sound s b h in with-box-sound s _ x (record { set = c .set; references = c .references }) k
 
 -- the first step leaves sets, references, inboxes and readings as they are
-first-sound : (e : Event) (b : Bench) → SoundIn b → SoundIn (firstStep e b)
+first-sound : (e : Event) (b : Bench) → PartsIn b → PartsIn (firstStep e b)
 unfolding firstStep
 first-sound e b h = fd-sound e 0 b _ h (fd-sound e 1 b _ h (shared-sound e b h))
 
-later-sound : (e : Event) (flag : Bool) (s : ℕ) (b : Bench) → SoundIn b → SoundIn (laterSteps e flag s b)
+later-sound : (e : Event) (flag : Bool) (s : ℕ) (b : Bench) → PartsIn b → PartsIn (laterSteps e flag s b)
 unfolding laterSteps
 later-sound e flag s b h = settled-sound _ s b (third-coherent e flag (secondStep s b) (second-coherent s b h)) h
 
-pub three-sound : (e : Event) (b : Bench) → SoundIn b → SoundIn (threeSteps e b)
+pub three-sound : (e : Event) (b : Bench) → PartsIn b → PartsIn (threeSteps e b)
 unfolding threeSteps
 three-sound e b h = acting-sound (laterSteps e (b .shared .overspeed)) (later-sound e (b .shared .overspeed)) (firstStep e b) (first-sound e b h)
 
 -- ---- knobs
 
-referred-sound : (r : References) (s : ℕ) (b : Bench) → ReferencesIn r → SoundIn b → SoundIn (referred r s b)
+referred-sound : (r : References) (s : ℕ) (b : Bench) → ReferencesIn r → PartsIn b → PartsIn (referred r s b)
 unfolding referred withReferences
 referred-sound r s b k h = with-box-sound s _ b (record { set = box-sound s b h .set; references = k }) h
 
-pitched-sound : (s : ℕ) (b : Bench) → SoundIn b → SoundIn (pitched s b)
+pitched-sound : (s : ℕ) (b : Bench) → PartsIn b → PartsIn (pitched s b)
 unfolding pitched
 pitched-sound s b h = settled-sound _ s b (kept-on (engage PITCH) pitch-coherent (side b s .set) (box-sound s b h .set)) h
 
@@ -174,22 +176,22 @@ moved-in : (n : ℕ) (amount : ℤ) (r : References) → ReferencesIn r → Refe
 unfolding moved
 moved-in n amount r h = clamped-reference-in n (reference n r +ℤ amount) r h
 
-moved-sound : (n : ℕ) (amount : ℤ) (s : ℕ) (b : Bench) → SoundIn b → SoundIn (referenceMoved n amount s b)
+moved-sound : (n : ℕ) (amount : ℤ) (s : ℕ) (b : Bench) → PartsIn b → PartsIn (referenceMoved n amount s b)
 unfolding referenceMoved
 moved-sound n amount s b h = referred-sound _ s b (moved-in n amount (side b s .references) (box-sound s b h .references)) h
 
-wheel-sound : (r : ℤ) (s : ℕ) (b : Bench) → SoundIn b → SoundIn (wheelTurned r s b)
+wheel-sound : (r : ℤ) (s : ℕ) (b : Bench) → PartsIn b → PartsIn (wheelTurned r s b)
 unfolding wheelTurned
 wheel-sound r s b h =
-    by-cond SoundIn (engagedIn VS (side b s .set)) _ _ (λ e. moved-sound _ r s b h)
-    (λ e. by-cond SoundIn (engagedIn PITCH (side b s .set)) _ _ (λ e. moved-sound _ r s b h)
-    (λ e. by-cond SoundIn (engagedIn VAPPR (side b s .set) || isOff (side b s .set)) b (pitched s b) (λ e. h) (λ e. pitched-sound s b h)))
+    by-cond PartsIn (engagedIn VS (side b s .set)) _ _ (λ e. moved-sound _ r s b h)
+    (λ e. by-cond PartsIn (engagedIn PITCH (side b s .set)) _ _ (λ e. moved-sound _ r s b h)
+    (λ e. by-cond PartsIn (engagedIn VAPPR (side b s .set) || isOff (side b s .set)) b (pitched s b) (λ e. h) (λ e. pitched-sound s b h)))
 
-altitude-sound : (r : ℤ) (s : ℕ) (b : Bench) → SoundIn b → SoundIn (altitudeTurned r s b)
+altitude-sound : (r : ℤ) (s : ℕ) (b : Bench) → PartsIn b → PartsIn (altitudeTurned r s b)
 unfolding altitudeTurned
 altitude-sound r s b h =
     let k = referred-sound (altitudeMoved r (side b s .references)) s b (moved-in _ (r *ℤ pos 100) (side b s .references) (box-sound s b h .references)) h in
-    by-cond SoundIn (engagedIn ALTSEL (side b s .set) && preselectionChanges r (side b s .references)) _ _ (λ e. pitched-sound s _ k) (λ e. k)
+    by-cond PartsIn (engagedIn ALTSEL (side b s .set) && preselectionChanges r (side b s .references)) _ _ (λ e. pitched-sound s _ k) (λ e. k)
 
 -- a heading modulo 360 is within its range
 heading-in : (z : ℤ) → within (referenceRange atHeading) (pos (modOf z 360)) ≡ true
@@ -198,28 +200,28 @@ heading-in z =
     let k = mod-below z 360 (omega arith) in
     and-both _ _ (le-leb 0 (modOf z 360) (omega arith)) (le-leb (modOf z 360) 359 (omega arith))
 
-heading-sound : (r : ℤ) (s : ℕ) (b : Bench) → SoundIn b → SoundIn (headingTurned r s b)
+heading-sound : (r : ℤ) (s : ℕ) (b : Bench) → PartsIn b → PartsIn (headingTurned r s b)
 unfolding headingTurned headingMoved
 heading-sound r s b h =
     let x = side b s .references in
     referred-sound _ s b (with-reference-in atHeading _ x (heading-in (reference atHeading x +ℤ r)) (box-sound s b h .references)) h
 
-knob-sound : (knob : ℕ) (r : ℤ) (s : ℕ) (b : Bench) → SoundIn b → SoundIn (knobTurned knob r s b)
+knob-sound : (knob : ℕ) (r : ℤ) (s : ℕ) (b : Bench) → PartsIn b → PartsIn (knobTurned knob r s b)
 unfolding knobTurned
 knob-sound knob r s b h =
-    by-cond SoundIn (eqb knob 0) _ _ (λ e. wheel-sound r s b h)
-    (λ e. by-cond SoundIn (eqb knob 1) _ _ (λ e. altitude-sound r s b h)
-    (λ e. by-cond SoundIn (eqb knob 2) _ _ (λ e. moved-sound _ r s b h) (λ e. heading-sound r s b h)))
+    by-cond PartsIn (eqb knob 0) _ _ (λ e. wheel-sound r s b h)
+    (λ e. by-cond PartsIn (eqb knob 1) _ _ (λ e. altitude-sound r s b h)
+    (λ e. by-cond PartsIn (eqb knob 2) _ _ (λ e. moved-sound _ r s b h) (λ e. heading-sound r s b h)))
 
-counted-sound : (knob n : ℕ) (b : Bench) → SoundIn b → SoundIn (counted knob n b)
+counted-sound : (knob n : ℕ) (b : Bench) → PartsIn b → PartsIn (counted knob n b)
 unfolding counted withCounts
 counted-sound knob n b h = search
 
-pub turned-sound : (knob n : ℕ) (b : Bench) → SoundIn b → SoundIn (turned knob n b)
+pub turned-sound : (knob n : ℕ) (b : Bench) → PartsIn b → PartsIn (turned knob n b)
 unfolding turned
 turned-sound knob n b h =
     let k = counted-sound knob n b h in
-    by-cond SoundIn (eqb n (countOf knob (b .counts))) _ _ (λ e. k) (λ e. acting-sound (knobTurned knob _) (knob-sound knob _) (counted knob n b) k)
+    by-cond PartsIn (eqb n (countOf knob (b .counts))) _ _ (λ e. k) (λ e. acting-sound (knobTurned knob _) (knob-sound knob _) (counted knob n b) k)
 
 -- ---- readings, sends and refreshes
 
@@ -233,19 +235,35 @@ stored-sound (Reading.Roll x) w k h = search
 stored-sound (Reading.Pitch x) w k h = search
 stored-sound (Reading.Heading x) w k h = search
 
-pub received-sound : (r : Reading) (b : Bench) → valid r ≡ true → SoundIn b → SoundIn (received r b)
+pub received-sound : (r : Reading) (b : Bench) → valid r ≡ true → PartsIn b → PartsIn (received r b)
 unfolding received withReadings
 received-sound r b k h = search stored-sound
 
 -- a side's channel goes into the other's inbox
-pub sent-sound : (s : ℕ) (b : Bench) → SoundIn b → SoundIn (sent s b)
+pub sent-sound : (s : ℕ) (b : Bench) → PartsIn b → PartsIn (sent s b)
 unfolding sent
 sent-sound s b h = with-box-sound _ (side b s) b (box-sound s b h) h
 
 -- a side takes what its inbox holds, or does the second step
-pub refreshed-sound : (s : ℕ) (b : Bench) → SoundIn b → SoundIn (refreshed s b)
+pub refreshed-sound : (s : ℕ) (b : Bench) → PartsIn b → PartsIn (refreshed s b)
 unfolding refreshed taken withSet withReferences
 refreshed-sound s b h =
     let i = box-sound (inboxOf s) b h in
-    by-cond SoundIn (acts b s) _ _ (λ e. settled-sound (secondStep s b) s b (second-coherent s b h) h)
+    by-cond PartsIn (acts b s) _ _ (λ e. settled-sound (secondStep s b) s b (second-coherent s b h) h)
     (λ e. with-box-sound s _ b (record { set = i .set; references = i .references }) h)
+
+-- ---- independent operation
+
+-- on or off, it is none of the other parts
+pub operation-sound : (x : Bool) (b : Bench) → PartsIn b → PartsIn (withOperation x b)
+unfolding withOperation withShared
+operation-sound x b h = search
+
+pub ended-sound : (b : Bench) → PartsIn b → PartsIn (ended b)
+unfolding ended
+ended-sound b h = by-cond PartsIn (independentSound b) b (withOperation false b) (λ e. h) (λ e. operation-sound false b h)
+
+-- and where it is over nothing is asked of the sides
+pub ended-holds : (b : Bench) → independentSound (ended b) ≡ true
+unfolding ended
+ended-holds b = by-cond (λ (x : Bench). independentSound x ≡ true) (independentSound b) b (withOperation false b) (λ e. e) (λ e. unfold independentSound withOperation withShared in refl)

@@ -1,4 +1,4 @@
--- `steps::shared_after` meets its contract: PF moves where the event is a transfer. Assumes nothing.
+-- `steps::shared_after` meets its contract: PF moves and independent operation ends where the event is a transfer. Assumes nothing.
 use Rattle.steps.specs.Steps.{sharedAfter}
 use borrow.Author.Needs.{needs}
 use Rattle.steps.proofs.shared_after.Statement.{statement}
