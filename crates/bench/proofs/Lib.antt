@@ -1,3 +1,4 @@
 pub mod Replaced
 pub mod SoundParts
+pub mod Independent
 pub mod Wholes

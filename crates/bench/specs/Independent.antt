@@ -9,7 +9,7 @@ use Rattle.bench.specs.Sides.{side}
 unfoldable pub bothApproach : Bench → Bool
 bothApproach b = approachEngaged (side b 0 .set) && approachEngaged (side b 1 .set)
 
--- it is on only where both sides have both modes
+-- a sound bench has it on only where both sides have both modes
 unfoldable pub independentSound : Bench → Bool
 independentSound b = implies (b .shared .independent) (bothApproach b)
 
@@ -21,6 +21,6 @@ withOperation x b = withShared (withIndependent x (b .shared)) b
 unfoldable pub begun : Bench → Bench
 begun b = cond (bothApproach b) (withOperation true b) b
 
--- what an accepted call leaves: it is over where a side is without one of the two modes
+-- after an accepted call it is off where a side is without one of the two modes
 unfoldable pub ended : Bench → Bench
-ended b = cond (independentSound b) b (withOperation false b)
+ended b = cond (bothApproach b) b (withOperation false b)

@@ -168,7 +168,7 @@ pub fn both_approach(b: Bench) -> bool
 }
 
 // Whether independent operation is off, or both sides have what it needs.
-pub fn independent_sound(b: Bench) -> bool
+fn independent_sound(b: Bench) -> bool
     ensures { λ res. ⌜ res ≡ independentSound b ⌝ }
 {
     let shared = b.shared;

@@ -1,9 +1,9 @@
 -- How every entry answers, by the refusal n that it found: a refused call with n and the bench as it came, an accepted one with 0 and what it does, after which
 -- independent operation may be over. Assumes nothing.
-use mathlib.Core.Path.{_≡_, refl, sym, ap, _∙_}
+use mathlib.Core.Path.{_≡_, sym, ap, _∙_}
 use mathlib.Core.Bool.{cond}
 use Prim.Native.Nat.{ℕ}
-use borrow.Author.Tests.{eq-eqb, ne-eqb}
+use borrow.Author.Tests.{ne-eqb}
 use lib.Dec.{eqb}
 use Rattle.bench.specs.declared.Bench.{Bench}
 use Rattle.bench.specs.Independent.{ended}

@@ -55,14 +55,14 @@ fn word_refusal(word: u32) -> u32
     if 2097152 <= word { 4 } else { 0 }
 }
 
-// What an accepted call leaves: independent operation is over where it took a mode of the approach
-// from a side.
+// What an accepted call leaves: independent operation is off where a side is without LAPPR or VAPPR
+// engaged.
 fn end_independent(b: Bench) -> Bench
     ensures { λ res. ⌜ res ≡ ended b ⌝ }
 {
     let shared = b.shared;
-    let goes_on = bench::independent_sound(b);
-    if goes_on {
+    let both = bench::both_approach(b);
+    if both {
         b
     } else {
         bench::parts::with_shared(b, bench::parts::with_independent(shared, false))

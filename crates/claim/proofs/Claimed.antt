@@ -1,25 +1,25 @@
 -- The claim over a list of calls, proved from any sound bench; power-on is an instance. Assumes nothing.
 use mathlib.Core.Path.{_≡_, refl, sym, ap, _∙_}
 use mathlib.Core.Bool.{true, false}
-use mathlib.Core.List.{List, [], _∷_, _++_, map}
+use mathlib.Core.List.{List, [], _∷_, _++_}
 use Prim.Native.Nat.{ℕ, _≤_}
 use borrow.Author.Tests.{ne-eqb}
 use lib.Dec.{eqb}
 use Rattle.bench.specs.declared.Bench.{Bench}
 use Rattle.bench.specs.declared.Channel.{Channel}
 use Rattle.bench.specs.Holds.{powerOn}
-use Rattle.bench.specs.Sides.{otherSide, side, inbox, acts}
+use Rattle.bench.specs.Sides.{otherSide, side, inbox}
 use Rattle.bench.specs.Sound.{sound}
 use Rattle.bench.proofs.Replaced.{by-side}
 use Rattle.calls.specs.declared.answers.Display.{Display}
 use Rattle.calls.specs.Calls.{Call, event, turn, reading, send, refresh, display, refusal, next, answer, eventAnswer, displayAnswer, reply}
 use Rattle.soundness.proofs.Kept.{power-on-sound, next-sound}
-use Rattle.claim.specs.Lists.{after, replies, transfers, refreshes, sends, pilotFrom, None}
-use Rattle.claim.specs.Claim.{displayFrom, SameShown, ShowsHeld, turnedAway, ClaimOf, Claim, ClaimFrom, Refused, Claims}
+use Rattle.claim.specs.Lists.{after, transfers, refreshes, sends, pilotFrom, pilotFlying, None, OffThroughout}
+use Rattle.claim.specs.Claim.{displayFrom, displayAfter, SameShown, ShowsHeld, turnedAway, PassiveRule, Claim, ClaimFrom, Refused, Claims}
 use Rattle.claim.proofs.Sides.{Same, same, same-trans}
 use Rattle.claim.proofs.OneCall.{other-side, step, sent-inbox, refreshed-side, unsound-next}
-use Rattle.claim.proofs.Shows.{display-refusal, display-shown, display-keeps, shows-held, same-held}
-use Rattle.claim.proofs.Lists.{after-append, after-sound, after-refusals, after-served, after-pilot, inbox-kept, passive-kept}
+use Rattle.claim.proofs.Shows.{display-refusal, display-shown, display-keeps, display-approach, shows-held, same-held}
+use Rattle.claim.proofs.Lists.{after-append, after-sound, after-refusals, after-served, after-pilot, inbox-kept, idle, off-rest, passive-kept}
 
 -- ---- from a sound bench
 
@@ -36,17 +36,17 @@ module _ (start : Bench) (sound-start : sound start ≡ true) where
 
   -- ---- the passive side's rule, for a side s and the calls ahead of its last refresh
 
-  module _ (s : ℕ) (hs : s ≤ 1) (pre post : List Call) (passive : pilotFrom (start .shared .pf) pre ≡ s → ⊥) (last : None (refreshes s) post) (kept : None transfers post) where
+  module _ (s : ℕ) (hs : s ≤ 1) (pre post : List Call) (off : OffThroughout (after start pre) (refresh s ∷ post)) (passive : pilotFrom (start .shared .pf) pre ≡ s → ⊥)
+      (last : None (refreshes s) post) (kept : None transfers post) where
     -- s shows what its inbox held at the refresh
     shows-inbox : ShowsHeld (inbox (after start pre) s) (displayFrom start (pre ++ (refresh s ∷ post)) s .display)
-    unfolding acts
     shows-inbox =
         let b = after start pre in
         let h = sound-from pre in
-        let idle : acts b s ≡ false = ne-eqb s (b .shared .pf) (λ e. passive (sym (pilot-from pre) ∙ sym e)) in
-        let still : acts (next b (refresh s)) s ≡ false = ap (eqb s) (step (refresh s) b h .pf) ∙ idle in
+        let flown : eqb s (b .shared .pf) ≡ false = ne-eqb s (b .shared .pf) (λ e. passive (sym (pilot-from pre) ∙ sym e)) in
+        let still : eqb s (next b (refresh s) .shared .pf) ≡ false = ap (eqb s) (step (refresh s) b h .pf) ∙ flown in
         let holds : Same (side (after (next b (refresh s)) post) s) (inbox b s) =
-        same-trans (passive-kept s hs post (next b (refresh s)) (next-sound b (refresh s) h) still last kept) (refreshed-side s hs b h idle) in
+        same-trans (passive-kept s hs post (next b (refresh s)) (next-sound b (refresh s) h) (off .1) still last kept) (refreshed-side s hs b h (idle s b flown (off .0))) in
         shows (pre ++ (refresh s ∷ post)) s hs (inbox b s) (rw (after-append pre (refresh s ∷ post) start) holds)
 
   -- what the inbox holds: what the other side held just before its last send, or what it held at the start
@@ -61,6 +61,20 @@ module _ (start : Bench) (sound-start : sound start ≡ true) where
   inbox-unsent : (s : ℕ) → s ≤ 1 → (pre : List Call) → None (sends (otherSide s)) pre → inbox (after start pre) s ≡ inbox start s
   inbox-unsent s hs pre n = inbox-kept s hs pre start sound-start n
 
+  -- the rule for a split of a list, with what an unsent side shows told by the inbox at the start
+  passive-from : (cs : List Call) (s : ℕ) → s ≤ 1 → (pre post : List Call) → cs ≡ pre ++ (refresh s ∷ post) → OffThroughout (after start pre) (refresh s ∷ post)
+      → PassiveRule start (pilotFrom (start .shared .pf)) (λ s d. ShowsHeld (inbox start s) d) s pre post (displayFrom start cs s .display)
+  passive-from cs s hs pre post e o p r t =
+      let d = displayFrom start (pre ++ (refresh s ∷ post)) s .display in
+      let now-held = shows-inbox s hs pre post o p r t in
+      rw e
+      (record {
+        sent = λ ahead later k n.
+            same-held (inbox (after start pre) s) d _ now-held
+            (shows ahead (otherSide s) (other-side s) (inbox (after start pre) s) (same (sym (rw k (inbox-sent s hs ahead later n)))));
+        unsent = λ n. rw (inbox-unsent s hs pre n) at now-held;
+      })
+
   pub claim-from : (cs : List Call) → ClaimFrom start cs
   claim-from cs = record {
     served = after-served cs start sound-start;
@@ -68,16 +82,9 @@ module _ (start : Bench) (sound-start : sound start ≡ true) where
     pilot-side = pilot-from cs;
     shown = λ s hs. display-refusal (after start cs) (sound-from cs) s hs;
     keeps = λ s hs. display-keeps (after start cs) (sound-from cs) s hs;
-    passive = λ s hs pre post e p r t.
-        let d = displayFrom start (pre ++ (refresh s ∷ post)) s .display in
-        let now-held = shows-inbox s hs pre post p r t in
-        rw e
-        (record {
-          sent = λ ahead later k n.
-              same-held (inbox (after start pre) s) d _ now-held
-              (shows ahead (otherSide s) (other-side s) (inbox (after start pre) s) (same (sym (rw k (inbox-sent s hs ahead later n)))));
-          unsent = λ n. rw (inbox-unsent s hs pre n) at now-held;
-        });
+    both-approach = λ on s hs. display-approach (after start cs) (sound-from cs) s hs on;
+    passive = passive-from cs;
+    passive-as-ever = λ o s hs pre post e. passive-from cs s hs pre post e (off-rest pre (refresh s ∷ post) start (rw e at o));
   }
 
 -- ---- from power-on
@@ -86,6 +93,19 @@ module _ (start : Bench) (sound-start : sound start ≡ true) where
 inbox-start : (s : ℕ) → s ≤ 1 → inbox powerOn s ≡ side powerOn (otherSide s)
 unfolding powerOn
 inbox-start s hs = by-side (λ (s : ℕ). inbox powerOn s ≡ side powerOn (otherSide s)) refl refl s hs
+
+-- so that the rule is the one told by the other side's display at power-on
+of-power-on : (s : ℕ) → s ≤ 1 → (pre post : List Call) (d : Display)
+    → PassiveRule powerOn pilotFlying (λ s d. ShowsHeld (inbox powerOn s) d) s pre post d
+    → PassiveRule powerOn pilotFlying (λ s d. SameShown d (displayAfter [] (otherSide s) .display)) s pre post d
+of-power-on s hs pre post d rule p r t =
+    let shown = rule p r t in
+    record {
+      sent = shown .sent;
+      unsent = λ n.
+          same-held (inbox powerOn s) _ _ (shown .unsent n)
+          (shows powerOn power-on-sound [] (otherSide s) (other-side s) (inbox powerOn s) (same (sym (inbox-start s hs))));
+    }
 
 pub claim : (cs : List Call) → Claim cs
 unfolding powerOn
@@ -97,14 +117,9 @@ claim cs =
       pilot-side = k .pilot-side;
       shown = k .shown;
       keeps = k .keeps;
-      passive = λ s hs pre post e p r t.
-          let shown = k .passive s hs pre post e p r t in
-          record {
-            sent = shown .sent;
-            unsent = λ n.
-                same-held (inbox powerOn s) _ _ (shown .unsent n)
-                (shows powerOn power-on-sound [] (otherSide s) (other-side s) (inbox powerOn s) (same (sym (inbox-start s hs))));
-          };
+      both-approach = k .both-approach;
+      passive = λ s hs pre post e o. of-power-on s hs pre post _ (k .passive s hs pre post e o);
+      passive-as-ever = λ o s hs pre post e. of-power-on s hs pre post _ (k .passive-as-ever o s hs pre post e);
     }
 
 -- ---- from an unsound bench

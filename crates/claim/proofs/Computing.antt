@@ -7,6 +7,7 @@ use Rattle.modes.specs.Numbers.{armedSum, modeLamps}
 use Rattle.modes.specs.Events.{overspeed, goAround, clearArmed, takeBasic, clearNavigation, capture, captureVappr, track, switch, switchNav, switchAppr, switchFlc}
 use Rattle.bench.specs.Parts.{withShared, withCounts, withReadings, withBox, withFd, withSet, withReferences, withReference, withCount}
 use Rattle.bench.specs.Sides.{acts}
+use Rattle.bench.specs.Independent.{bothApproach, independentSound, withOperation, begun, ended}
 use Rattle.bench.specs.Holds.{startChannel, powerOn}
 use Rattle.bench.specs.Ranges.{referenceRange}
 use Rattle.bench.specs.Readings.{wholeReading, refusalOf, wholeNumber, stored}
@@ -29,7 +30,7 @@ changes = tt
 
 -- the parts of a bench, its readings and its soundness
 unfoldable parts : Unit {0}
-unfolding withShared withCounts withReadings withBox withFd withSet withReferences withReference withCount acts startChannel powerOn
+unfolding withShared withCounts withReadings withBox withFd withSet withReferences withReference withCount acts startChannel powerOn bothApproach independentSound withOperation begun ended
 parts = tt
 
 unfoldable benches : Unit {0}

@@ -6,3 +6,4 @@ pub mod OneCall
 pub mod Shows
 pub mod Lists
 pub mod Claimed
+pub mod Independent

@@ -1,6 +1,6 @@
 -- What a display of a sound bench shows: it meets what `Keeps` asks for, by computing over all representable sets. Assumes nothing.
 use mathlib.Core.Path.{_≡_, refl, sym, ap, _∙_}
-use mathlib.Core.Bool.{Bool, true, false, not, false≢true, true≢false}
+use mathlib.Core.Bool.{Bool, true, false, not, _&&_, false≢true, true≢false}
 use Prim.Native.Nat.{ℕ, _≤_, _/_, _%_}
 use native.Mathlib.Omega.{arith}
 use borrow.Author.Tests.{eqb-true, eqb-false, eq-eqb, not-true}
@@ -9,7 +9,8 @@ use Rattle.modes.specs.declared.Modes.{Modes}
 use Rattle.modes.specs.declared.ModeSet.{ModeSet}
 use Rattle.modes.specs.Every.{everyModes}
 use Rattle.modes.proofs.Every.{at-modes}
-use Rattle.modes.specs.Sets.{implies, engaged, armed, cleared, once, coherent, coherentSet, isOff}
+use Rattle.modes.proofs.Joins.{lateral-shown, vertical-shown}
+use Rattle.modes.specs.Sets.{LAPPR, VAPPR, implies, engaged, armed, cleared, once, coherent, coherentSet, engagedIn, approachEngaged, isOff}
 use Rattle.modes.specs.Numbers.{lateralNumber, verticalNumber, lateralLaw, verticalLaw, armedSum}
 use Rattle.bench.specs.declared.References.{References}
 use Rattle.bench.specs.declared.Channel.{Channel}
@@ -21,7 +22,8 @@ use Rattle.calls.specs.declared.answers.Display.{Display}
 use Rattle.calls.specs.Displays.{shown}
 use Rattle.calls.specs.Calls.{refusal, displayAnswer}
 use Rattle.soundness.proofs.Kept.{on-laws}
-use Rattle.bench.proofs.SoundParts.{parts}
+use Rattle.bench.specs.Independent.{bothApproach, independentSound}
+use Rattle.bench.proofs.SoundParts.{and-left, and-right, parts, independent-part}
 use Rattle.claim.specs.Claim.{Keeps, SameShown, ShowsHeld}
 use Rattle.claim.proofs.Sides.{Same}
 use Rattle.claim.proofs.OneCall.{side-accepted}
@@ -99,6 +101,23 @@ module _ (b : Bench) (h : sound b ≡ true) (s : ℕ) (hs : s ≤ 1) where
   pub display-keeps : Keeps (not (isOff (side b s .set))) (displayAnswer b s .display)
   unfolding shown
   display-keeps = rw display-shown (keeps-set (side b s .set) _ _ _ side-coherent)
+
+-- with independent operation on, a side shows laws 4 and 7
+approach-laws : (set : ModeSet) → approachEngaged set ≡ true → (lateralLaw set ≡ 4) × (verticalLaw set ≡ 7)
+unfolding engaged
+approach-laws set h =
+    (eqb-true _ 4 (lateral-shown 4 LAPPR tt set ∙ and-left _ _ h), eqb-true _ 7 (vertical-shown 7 VAPPR tt set ∙ and-right (engagedIn LAPPR set) _ h))
+
+pub side-approach : (b : Bench) → sound b ≡ true → b .shared .independent ≡ true → (s : ℕ) → s ≤ 1 → approachEngaged (side b s .set) ≡ true
+unfolding independentSound bothApproach
+side-approach b h on s hs =
+    let both : (approachEngaged (side b 0 .set) && approachEngaged (side b 1 .set)) ≡ true = rw on at (independent-part b h) in
+    by-side (λ (s : ℕ). approachEngaged (side b s .set) ≡ true) (and-left _ (approachEngaged (side b 1 .set)) both) (and-right (approachEngaged (side b 0 .set)) _ both) s hs
+
+pub display-approach : (b : Bench) → sound b ≡ true → (s : ℕ) → s ≤ 1 → b .shared .independent ≡ true
+    → (displayAnswer b s .display .lateral ≡ 4) × (displayAnswer b s .display .vertical ≡ 7)
+unfolding shown
+display-approach b h s hs on = rw (display-shown b h s hs) (approach-laws (side b s .set) (side-approach b h on s hs))
 
 -- a side shows what a channel with the same set and references holds
 pub shows-held : (x : Bench) (s : ℕ) (c : Channel) → Same (side x s) c → ShowsHeld c (shown x s)

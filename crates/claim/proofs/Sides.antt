@@ -3,7 +3,7 @@ use mathlib.Core.Path.{_≡_, refl, ap, _∙_}
 use mathlib.Core.Bool.{Bool, true, false, cond, _&&_, _||_}
 use Prim.Native.Nat.{ℕ, _≤_}
 use native.Mathlib.Omega.{arith}
-use borrow.Author.Tests.{ne-eqb, eqb-true, eq-eqb}
+use borrow.Author.Tests.{ne-eqb, eq-eqb}
 use lib.Dec.{eqb}
 use lib.IntN.{ℤ}
 use Rattle.modes.specs.declared.ModeSet.{ModeSet}
@@ -12,7 +12,8 @@ use Rattle.modes.specs.Sets.{PITCH, VS, ALTSEL, VAPPR, engagedIn, isOff}
 use Rattle.bench.specs.declared.Channel.{Channel}
 use Rattle.bench.specs.declared.Shared.{Shared}
 use Rattle.bench.specs.declared.Bench.{Bench}
-use Rattle.bench.specs.Parts.{withCounts, box, withBox, countOf}
+use Rattle.bench.specs.Parts.{withShared, withCounts, box, withBox, countOf}
+use Rattle.bench.specs.Independent.{bothApproach, withOperation, begun, ended}
 use Rattle.bench.specs.Sides.{inboxOf, side, inbox, acts, whereActing, onActing}
 use Rattle.bench.proofs.Replaced.{by-side, box-read}
 use Rattle.steps.specs.Entry.{settled}
@@ -123,7 +124,7 @@ unfolding acts
 passive-trans {x} {y} {z} a c = record {
   shared = a .shared ∙ c .shared;
   inboxes = λ s h. a .inboxes s h ∙ c .inboxes s h;
-  side-kept = λ s h n. a .side-kept s h (ap (λ (w : Shared). eqb s (w .pf)) (c .shared) ∙ n) ∙ c .side-kept s h n;
+  side-kept = λ s h n. a .side-kept s h (ap (λ (w : Shared). eqb s (w .pf) || w .independent) (c .shared) ∙ n) ∙ c .side-kept s h n;
 }
 
 -- a change of one side, made where it acts, and so on each side that acts
@@ -153,3 +154,30 @@ unfolding turned
 turned-passive knob n b =
     by-cond (λ (x : Bench). Passive x b) (eqb n (countOf knob (b .counts))) _ _ (λ _. counted-passive knob n b)
     (λ _. passive-trans (acting-passive (knobTurned knob _) (λ p hp x. knob-within p hp knob _ x) (counted knob n b)) (counted-passive knob n b))
+
+-- ---- x is b but for whether independent operation is on
+
+pub record SameButOperation (x b : Bench) : Type 0 where
+  pub pf : x .shared .pf ≡ b .shared .pf
+  pub inboxes : (s : ℕ) → inbox x s ≡ inbox b s
+  pub sides : (s : ℕ) → side x s ≡ side b s
+
+operation-same : (on : Bool) (b : Bench) → SameButOperation (withOperation on b) b
+unfolding withOperation withShared
+operation-same on b = record { pf = refl; inboxes = λ s. refl; sides = λ s. refl }
+
+nothing-same : (b : Bench) → SameButOperation b b
+nothing-same b = record { pf = refl; inboxes = λ s. refl; sides = λ s. refl }
+
+pub begun-same : (b : Bench) → SameButOperation (begun b) b
+unfolding begun
+begun-same b = by-cond (λ (x : Bench). SameButOperation x b) (bothApproach b) _ _ (λ _. operation-same true b) (λ _. nothing-same b)
+
+pub ended-same : (b : Bench) → SameButOperation (ended b) b
+unfolding ended
+ended-same b = by-cond (λ (x : Bench). SameButOperation x b) (bothApproach b) _ _ (λ _. nothing-same b) (λ _. operation-same false b)
+
+-- what is off stays off when it is looked at
+pub ended-off : (b : Bench) → b .shared .independent ≡ false → ended b .shared .independent ≡ false
+unfolding ended withOperation withShared
+ended-off b h = by-cond (λ (x : Bench). x .shared .independent ≡ false) (bothApproach b) b (withOperation false b) (λ _. h) (λ _. refl)

@@ -1,4 +1,4 @@
--- Demand 3, and document 01, 'The claim over a list of calls': what holds after a list of calls, whatever they ask for and whether or not they are refused, from
+-- Demand 3, document 01, 'The claim over a list of calls', and document 02, 2026-03: what holds after a list of calls, whatever they ask for and whether or not they are refused, from
 -- power-on and from any other sound bench; and what becomes of a list from an unsound one. `after` and `replies` of Lists apply the rules to one call after another;
 -- `accepted`, `transfers`, `refreshes`, `sends` and `pilotFlying` there go by the calls alone. Here are definitions and statements only; the proofs are in proofs/.
 use mathlib.Core.Path.{_≡_}
@@ -16,7 +16,7 @@ use Rattle.calls.specs.declared.answers.Display.{Display}
 use Rattle.calls.specs.declared.answers.DisplayAnswer.{DisplayAnswer}
 use Rattle.calls.specs.Displays.{blank}
 use Rattle.calls.specs.Calls.{Call, event, turn, reading, send, refresh, display, ownRefusal, displayAnswer, Reply, plain, told, shows, refusalIn}
-use Rattle.claim.specs.Lists.{after, replies, transfers, refreshes, sends, pilotFrom, pilotFlying, None}
+use Rattle.claim.specs.Lists.{after, replies, transfers, refreshes, sends, pilotFrom, pilotFlying, None, OffThroughout}
 
 -- ---- what a display shows
 
@@ -94,6 +94,15 @@ pub record ShowsSent (start : Bench) (Unsent : Display → Type 0) (other : ℕ)
       → SameShown d (displayFrom start ahead other .display)
   pub unsent : None (sends other) pre → Unsent d
 
+-- "A side that was passive at its last refresh, and ever since": the list is pre, a refresh of s and post; s did not have the pilot flying at that refresh; post has
+-- no accepted refresh of s, so that it is the last one; and post has no accepted transfer
+abbrev pub PassiveRule : (start : Bench) (pilot : List Call → ℕ) (Unsent : ℕ → Display → Type 0) (s : ℕ) (pre post : List Call) (d : Display) → Type 0
+PassiveRule start pilot Unsent s pre post d =
+    (pilot pre ≡ s → ⊥)
+    → None (refreshes s) post
+    → None transfers post
+    → ShowsSent start (Unsent s) (otherSide s) pre d
+
 -- ---- the claim
 
 -- of a list of calls from a start. `pilot` tells the pilot flying's side after a list, and `Unsent s` what side s shows if nothing was sent to it since the start
@@ -107,13 +116,16 @@ pub record ClaimOf (start : Bench) (pilot : List Call → ℕ) (Unsent : ℕ →
   -- neither side's display is refused, and each meets what `Keeps` asks for
   pub shown : (s : ℕ) → s ≤ 1 → displayFrom start cs s .refusal ≡ 0
   pub keeps : (s : ℕ) → s ≤ 1 → Keeps (modesOn start cs s) (displayFrom start cs s .display)
-  -- "A side that was passive at its last refresh, and ever since": the list is pre, a refresh of s and post; s did not have the pilot flying at that refresh; post has
-  -- no accepted refresh of s, so that it is the last one; and post has no accepted transfer
+  -- while independent operation is on, either side shows LAPPR and VAPPR engaged
+  pub both-approach : after start cs .shared .independent ≡ true → (s : ℕ) → s ≤ 1 → (displayFrom start cs s .display .lateral ≡ 4) × (displayFrom start cs s .display .vertical ≡ 7)
+  -- the passive side's rule. It is silent while independent operation is on, and from then until the side is refreshed by a call that found it off: so it speaks where
+  -- the last refresh found it off and it has been off ever since
   pub passive : (s : ℕ) → s ≤ 1 → (pre post : List Call) → cs ≡ pre ++ (refresh s ∷ post)
-      → (pilot pre ≡ s → ⊥)
-      → None (refreshes s) post
-      → None transfers post
-      → ShowsSent start (Unsent s) (otherSide s) pre (displayFrom start cs s .display)
+      → OffThroughout (after start pre) (refresh s ∷ post)
+      → PassiveRule start pilot Unsent s pre post (displayFrom start cs s .display)
+  -- where it was never on, that is document 01's rule, with nothing more asked of the list
+  pub passive-as-ever : OffThroughout start cs → (s : ℕ) → s ≤ 1 → (pre post : List Call) → cs ≡ pre ++ (refresh s ∷ post)
+      → PassiveRule start pilot Unsent s pre post (displayFrom start cs s .display)
 
 -- demand 3, from power-on: left has PF at first, and a side to which nothing was sent shows what the other side's display shows at power-on
 abbrev pub Claim : List Call → Type 0

@@ -1,4 +1,5 @@
 pub mod Lists
 pub mod Claim
+pub mod Independent
 pub mod Sheet
 pub mod Reached

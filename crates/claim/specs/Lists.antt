@@ -1,5 +1,5 @@
 -- Lists of calls from a bench, by the rules, and document 01's words about them. Document 01, 'The claim over a list of calls'.
--- The words are defined from the calls alone: no bench is asked.
+-- The words are defined from the calls alone: no bench is asked. What is said of independent operation (document 02, 2026-03) goes by the rules' bench.
 use mathlib.Core.Path.{_≡_}
 use mathlib.Core.Bool.{Bool, false, _&&_, cond}
 use mathlib.Core.List.{List, [], _∷_}
@@ -62,7 +62,23 @@ pilotFrom p (c ∷ cs) = pilotFrom (cond (transfers c) (otherSide p) p) cs
 abbrev pub pilotFlying : List Call → ℕ
 pilotFlying cs = pilotFrom 0 cs
 
+-- an accepted word whose lowest set bit is 20, the switch of independent operation
+abbrev pub asksIndependent : Call → Bool
+asksIndependent (event word) = accepted (event word) && eqb (trailingZeros 32 word) 20
+asksIndependent (turn knob n) = false
+asksIndependent (reading r) = false
+asksIndependent (send t) = false
+asksIndependent (refresh t) = false
+asksIndependent (display t) = false
+
 -- no call of the list is such a call
 abbrev pub None : (Call → Bool) → List Call → Type 0
 None p [] = Unit {0}
 None p (c ∷ cs) = (p c ≡ false) × None p cs
+
+-- ---- independent operation, by the rules' bench
+
+-- it is off on the bench that the first of these calls finds, and after each of them
+abbrev pub OffThroughout : Bench → List Call → Type 0
+OffThroughout b [] = b .shared .independent ≡ false
+OffThroughout b (c ∷ cs) = (b .shared .independent ≡ false) × OffThroughout (next b c) cs

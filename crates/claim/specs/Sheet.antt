@@ -1,4 +1,4 @@
--- Document 01, 'Bench sheet', with case 2 as document 02 has it: its twelve cases as one claim, about the whole values, the rotations and the rules. A case that is a list of calls begins at power-on.
+-- Document 01, 'Bench sheet', with cases 2 and 10 as document 02 has them: its twelve cases as one claim, about the whole values, the rotations and the rules. A case that is a list of calls begins at power-on.
 -- Here are definitions and the statement only; the proof is in proofs/Sheet.antt.
 use mathlib.Core.Path.{_≡_}
 use mathlib.Core.Bool.{false}
@@ -96,7 +96,7 @@ abbrev pub nine₂ : List Call
 nine₂ = nine₁ ++ (event 2048 ∷ [])
 
 abbrev pub ten : List Call
-ten = event 0 ∷ event 1048576 ∷ []
+ten = event 0 ∷ event 2097152 ∷ []
 
 -- 11: six, and then a send and a refresh
 abbrev pub eleven : List Call
@@ -138,7 +138,7 @@ pub record Sheet : Type 0 where
       × (laws eight₃ onLeft ≡ (4, 7)) × (shownBy eight₃ onLeft .armed ≡ 0) × (laws eight₄ onLeft ≡ (4, 2)) × (shownBy eight₄ onLeft .armed ≡ 4)
   -- overspeed (4) while VAPPR waits beside LAPPR engages FLC: laws 4 and 3, sum 12. VAPPR's signal (2,048) then changes neither
   pub case9 : (laws nine₁ onLeft ≡ (4, 3)) × (shownBy nine₁ onLeft .armed ≡ 12) × (laws nine₂ onLeft ≡ (4, 3)) × (shownBy nine₂ onLeft .armed ≡ 12)
-  -- an empty word is accepted with answer 32; 1,048,576, which is bit 20, is refused with 4; neither changes the bench
+  -- an empty word is accepted with answer 32; 2,097,152, which is bit 21 (document 02, 2026-03), is refused with 4; neither changes the bench
   pub case10 : (replies powerOn ten ≡ told 0 32 ∷ told 4 32 ∷ []) × (after powerOn ten ≡ powerOn)
   -- case 6 leaves right Off (0 and 0), its one lamp PF left (128); left sends, right refreshes and shows 2 and 1, with its FD still Off
   pub case11 : (displayAfter six onRight .refusal ≡ 0) × (laws six onRight ≡ (0, 0)) × (shownBy six onRight .lamps ≡ 128)

@@ -12,6 +12,7 @@ use Rattle.soundness.proofs.Kept.{keeps-sound, laws-in-range}
 use Rattle.soundness.proofs.Lowest.{names}
 use Rattle.claim.proofs.Claimed.{claims}
 use Rattle.claim.proofs.Reached.{reached}
+use Rattle.claim.proofs.Independent.{independent-laws}
 use Rattle.replay.proofs.Delivered.{delivered}
 use Rattle.replay.proofs.Coding.{coding}
 use Rattle.guidance.proofs.Picks.{guides, guides-from, refused-pick}
@@ -29,6 +30,7 @@ promises = record {
   delivered = delivered;
   claims = claims;
   reached = reached;
+  independent-laws = independent-laws;
   coding = coding;
   guides = guides;
   guides-from = guides-from;

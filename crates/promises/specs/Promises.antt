@@ -22,6 +22,7 @@ use Rattle.soundness.specs.Kept.{KeepsSound, LawsInRange}
 use Rattle.soundness.specs.Lowest.{NamesLowest}
 use Rattle.claim.specs.Claim.{Claims}
 use Rattle.claim.specs.Reached.{Reached}
+use Rattle.claim.specs.Independent.{IndependentLaws}
 use Rattle.replay.specs.Runs.{Delivered}
 use Rattle.replay.specs.Coded.{Coding}
 use Rattle.guidance.specs.Picker.{Guides, RefusedPick}
@@ -40,6 +41,8 @@ pub record Promises : Type 2 where
   pub claims : Claims
   -- the claim over lists is not empty
   pub reached : Reached
+  -- what turns independent operation on, what can't, and what ends it
+  pub independent-laws : IndependentLaws
   -- every list of calls can be handed to `replay::run_to`
   pub coding : (cs : List Call) → Coding cs
   -- the picker names laws that can be flown, from power-on and from any sound bench; what it refuses has the laws 0 and 0

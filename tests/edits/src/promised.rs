@@ -19,6 +19,7 @@ const FIELDS: &[&str] = &[
     "delivered : Delivered",
     "claims : Claims",
     "reached : Reached",
+    "independent-laws : IndependentLaws",
     "coding : (cs : List Call) → Coding cs",
     "guides : (cs : List Call) → Guides powerOn cs",
     "guides-from : (start : Bench) → sound start ≡ true → (cs : List Call) → Guides start cs",

@@ -2,7 +2,7 @@
 -- makes a bench sound that is so in its parts. Assumes nothing.
 use mathlib.Core.Path.{_≡_, refl, subst}
 use mathlib.Core.Bool.{Bool, true, false, _&&_, _||_, cond}
-use Prim.Native.Nat.{ℕ, _≤_}
+use Prim.Native.Nat.{ℕ}
 use native.Mathlib.Omega.{arith}
 use borrow.Author.Tests.{le-leb, eqb-true}
 use lib.Dec.{T, eqb, leb}
@@ -28,11 +28,11 @@ use Rattle.bench.specs.Parts.{withShared, withCounts, withReadings, box, withBo
 use Rattle.bench.specs.Ranges.{within, clamped, referenceRange}
 use Rattle.bench.specs.Readings.{stored, wholeNumber}
 use Rattle.bench.specs.Sides.{otherSide, inboxOf, side, acts, whereActing, onActing}
-use Rattle.bench.specs.Independent.{independentSound, withOperation, ended}
+use Rattle.bench.specs.Independent.{bothApproach, independentSound, withOperation, ended}
 use Rattle.bench.specs.Sound.{valid}
 use Rattle.bench.proofs.Replaced.{reference-read}
 use Rattle.steps.specs.Entry.{newly, loaded, loads, entry, enter, settled}
-use Rattle.steps.specs.Steps.{sharedAfter, fdAfter, withFdAfter, firstStep, isOn, comingOn, secondStep, thirdStep, laterSteps, threeSteps}
+use Rattle.steps.specs.Steps.{sharedAfter, withFdAfter, firstStep, isOn, comingOn, secondStep, thirdStep, laterSteps, threeSteps}
 use Rattle.knobs.specs.Knobs.{moved, referred, referenceMoved, pitched, wheelTurned, altitudeMoved, preselectionChanges, altitudeTurned, headingMoved, headingTurned, knobTurned, counted, turned}
 use Rattle.calls.specs.Calls.{received}
 use Rattle.calls.specs.Sends.{sent, taken, refreshed}
@@ -261,9 +261,15 @@ operation-sound x b h = search
 
 pub ended-sound : (b : Bench) → PartsIn b → PartsIn (ended b)
 unfolding ended
-ended-sound b h = by-cond PartsIn (independentSound b) b (withOperation false b) (λ e. h) (λ e. operation-sound false b h)
+ended-sound b h = by-cond PartsIn (bothApproach b) b (withOperation false b) (λ e. h) (λ e. operation-sound false b h)
 
--- and where it is over nothing is asked of the sides
+-- and where it is off nothing is asked of the sides
 pub ended-holds : (b : Bench) → independentSound (ended b) ≡ true
-unfolding ended
-ended-holds b = by-cond (λ (x : Bench). independentSound x ≡ true) (independentSound b) b (withOperation false b) (λ e. e) (λ e. unfold independentSound withOperation withShared in refl)
+unfolding ended independentSound
+ended-holds b =
+    by-cond (λ (x : Bench). implies (x .shared .independent) (bothApproach x) ≡ true) (bothApproach b) b (withOperation false b)
+    (λ e. rw e (either-way (b .shared .independent))) (λ e. unfold withOperation withShared in refl)
+  where
+    either-way : (t : Bool) → implies t true ≡ true
+    either-way true = refl
+    either-way false = refl

@@ -1,7 +1,7 @@
 -- `steps::act` meets its contract: an event goes through its steps, and every event but none and the switch of independent operation is left to the last arm. Assumes
 -- nothing.
 use mathlib.Core.Path.{_≡_, refl, _∙_}
-use mathlib.Core.Bool.{Bool, false, cond}
+use mathlib.Core.Bool.{false, cond}
 use mathlib.Core.List.{[], _∷_}
 use Rattle.modes.specs.declared.Event.{Event}
 use Rattle.modes.specs.declared.Event.the-variants.{IndependentSwitch, NoEvent}
