@@ -3,11 +3,12 @@
 use Prim.Native.Nat.{ℕ, _+_, _%_}
 use Rattle.scripts.specs.declared.Command.{Command}
 use Rattle.scripts.specs.declared.Command.the-variants.{Blank, Wrong, Event, Send, Refresh, Display, Pick, Turn, Knob, Reading, PowerOn, Panel, Help, Watch}
-use Rattle.scripts.specs.declared.Command.the-variants.{DamagePf, DamageReading, DamageSet, DamageReference, Area, Poke, Write, Read, Bytes}
+use Rattle.scripts.specs.declared.Command.the-variants.{DamagePf, DamageReading, DamageSet, DamageReference, DamageIndependent, Area, Poke, Write, Read, Bytes}
 use Rattle.scripts.specs.declared.Command.the-variants.{Bench as WriteBench}
 use Rattle.bench.specs.declared.Bench.{Bench}
 use Rattle.bench.specs.Holds.{powerOn}
 use Rattle.bench.specs.Parts.{countOf}
+use Rattle.bench.specs.Independent.{withOperation}
 use Rattle.calls.specs.declared.answers.Answer.{Answer}
 use Rattle.calls.specs.declared.answers.EventAnswer.{EventAnswer}
 use Rattle.calls.specs.Calls.{Call, received, answer, eventAnswer}
@@ -48,6 +49,7 @@ answerTo (DamagePf n) b = leaves (pfDamaged n b)
 answerTo (DamageReading r) b = leaves (received r b)
 answerTo (DamageSet n set) b = leaves (setDamaged n set b)
 answerTo (DamageReference n place x) b = leaves (referenceDamaged n place x b)
+answerTo (DamageIndependent on) b = leaves (withOperation on b)
 answerTo (Area n) b = leaves b
 answerTo (Poke start) b = leaves b
 answerTo (Write side start) b = leaves b
@@ -80,6 +82,7 @@ effectOf (DamagePf n) = Effect.Acts
 effectOf (DamageReading r) = Effect.Acts
 effectOf (DamageSet n set) = Effect.Acts
 effectOf (DamageReference n place x) = Effect.Acts
+effectOf (DamageIndependent on) = Effect.Acts
 effectOf (Area n) = Effect.Stores (AreaAct.Clears n)
 effectOf (Poke start) = Effect.Stores (AreaAct.Pokes start)
 effectOf (Write side start) = Effect.Stores (AreaAct.Writes side start)

@@ -1,4 +1,5 @@
--- What `damage` changes in a bench, whatever the rules say. The console's page, 'damage'. A damaged reading is stored as `received` stores one.
+-- What `damage` changes in a bench, whatever the rules say. The console's page, 'damage'. A damaged reading is stored as `received` stores one,
+-- and independent operation is turned on or off as `withOperation` does it.
 use Prim.Native.Nat.{ℕ}
 use lib.IntN.{ℤ}
 use Rattle.modes.specs.declared.ModeSet.{ModeSet}

@@ -5,6 +5,7 @@ ghost use mathlib.Core.Path.{_≡_};
 ghost use Rattle.acts.specs.Acts.{eventless, leaves, clicked, effectOf, answerTo};
 use areas::AreaAct;
 use bench::Bench;
+use bench::parts::with_operation;
 use calls::answers::Answer;
 use calls::answers::EventAnswer;
 use damage::damage_pf;
@@ -78,6 +79,7 @@ pub fn effect_of(c: Command) -> Effect
         Command::DamageReading(_) => Effect::Acts,
         Command::DamageSet(_, _) => Effect::Acts,
         Command::DamageReference(_, _, _) => Effect::Acts,
+        Command::DamageIndependent(_) => Effect::Acts,
         Command::Area(n) => Effect::Stores(AreaAct::Clears(n)),
         Command::Poke(start) => Effect::Stores(AreaAct::Pokes(start)),
         Command::Write(side, start) => Effect::Stores(AreaAct::Writes(side, start)),
@@ -112,6 +114,7 @@ pub fn answer_to(b: Bench, c: Command) -> EventAnswer
         Command::DamageReading(r) => bench_alone(damage_reading(b, r)),
         Command::DamageSet(n, set) => bench_alone(damage_set(b, n, set)),
         Command::DamageReference(n, place, x) => bench_alone(damage_reference(b, n, place, x)),
+        Command::DamageIndependent(on) => bench_alone(with_operation(b, on)),
         Command::Area(_) => bench_alone(b),
         Command::Poke(_) => bench_alone(b),
         Command::Write(_, _) => bench_alone(b),

@@ -8,7 +8,8 @@ use crate::References;
 use crate::Shared;
 use modes::ModeSet;
 ghost use mathlib.Core.Path.{_≡_};
-ghost use Rattle.bench.specs.Parts.{withShared, withCounts, withReadings, box, withBox, withFd, withSet, withReferences, withPf, withIndependent, reference, withReference, zeroReferences, countOf, withCount};
+ghost use Rattle.bench.specs.Parts.{withShared, withCounts, withReadings, box, withBox, withFd, withSet, withReferences, withPf, reference, withReference, zeroReferences, countOf, withCount};
+ghost use Rattle.bench.specs.Independent.{withOperation};
 ghost use Rattle.bench.specs.Sides.{inboxOf};
 
 // The places of the references.
@@ -134,12 +135,13 @@ pub fn with_pf(s: Shared, pf: u32) -> Shared
     next
 }
 
-pub fn with_independent(s: Shared, on: bool) -> Shared
-    ensures { λ res. ⌜ res ≡ withIndependent on s ⌝ }
+// The bench with independent operation on or off.
+pub fn with_operation(b: Bench, on: bool) -> Bench
+    ensures { λ res. ⌜ res ≡ withOperation on b ⌝ }
 {
-    let mut next = s;
-    next.independent = on;
-    next
+    let mut shared = b.shared;
+    shared.independent = on;
+    with_shared(b, shared)
 }
 
 // A reference by its place.

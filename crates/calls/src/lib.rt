@@ -60,12 +60,11 @@ fn word_refusal(word: u32) -> u32
 fn end_independent(b: Bench) -> Bench
     ensures { λ res. ⌜ res ≡ ended b ⌝ }
 {
-    let shared = b.shared;
     let both = bench::both_approach(b);
     if both {
         b
     } else {
-        bench::parts::with_shared(b, bench::parts::with_independent(shared, false))
+        bench::parts::with_operation(b, false)
     }
 }
 

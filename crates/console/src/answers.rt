@@ -122,7 +122,8 @@ fn put_boxes(out: &mut [u8], waiting: usize, b: Bench) -> usize {
 fn put_shared(out: &mut [u8], waiting: usize, s: Shared) -> usize {
     let mut at = put_next(out, waiting, s.pf);
     at = put_next_flag(out, at, s.ap);
-    put_next_flag(out, at, s.overspeed)
+    at = put_next_flag(out, at, s.overspeed);
+    put_next_flag(out, at, s.independent)
 }
 
 fn put_bench(out: &mut [u8], waiting: usize, b: Bench) -> usize {

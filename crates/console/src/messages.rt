@@ -33,7 +33,7 @@ fn put_damage_reason(out: &mut [u8], waiting: usize, wrong: u32) -> usize {
         scripts::NO_DAMAGE => put_text(
             out,
             waiting,
-            b"damage takes left, right, left-inbox, right-inbox, reading or pf",
+            b"damage takes left, right, left-inbox, right-inbox, reading, pf or independent",
         ),
         scripts::NO_PF => put_text(out, waiting, b"N is a number from 0 to 255"),
         scripts::NO_REFERENCE => put_text(
@@ -52,6 +52,7 @@ fn put_damage_reason(out: &mut [u8], waiting: usize, wrong: u32) -> usize {
             b"a set is LATERAL 1 to 5, ARMED 0 to 2, VERTICAL 1 to 8, VAPPR-ARMED 0 or 1, or 0 and three \
 numbers for Off",
         ),
+        scripts::NO_FLAG => put_text(out, waiting, b"N is 0 or 1"),
         _ => put_area_reason(out, waiting, wrong),
     }
 }
@@ -111,7 +112,7 @@ display, pick, power-on, bench, panel, watch, help, damage, area, poke, write, r
             out,
             waiting,
             b"SWITCH is ap-disconnect, ap, go-around, transfer, fd-left, fd-right, hdg, nav, appr, vs, \
-flc or alt",
+flc, alt or independent",
         ),
         scripts::NO_SIGNAL => put_text(
             out,
@@ -139,7 +140,8 @@ pub(crate) fn put_help(out: &mut [u8], waiting: usize) -> usize {
         out,
         waiting,
         b"help\n\
-press SWITCH        ap-disconnect ap go-around transfer fd-left fd-right hdg nav appr vs flc alt\n\
+press SWITCH        ap-disconnect ap go-around transfer fd-left fd-right hdg nav appr vs flc alt \
+independent\n\
 signal SIGNAL       overspeed-begins overspeed-ends source-changed nav-captured lappr-captured vappr-captured \
 altsel-captured altsel-on-track\n\
 event WORD          the same by a word of bits, of which the lowest decides: bit 14, word 16384, is hdg\n\

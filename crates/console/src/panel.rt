@@ -1,4 +1,5 @@
-// Draws both panels, side by side, with what their displays show, and the overspeed flag, which no display shows.
+// Draws both panels, side by side, with what their displays show, and two flags that no display shows: overspeed
+// and independent operation.
 // A row has 35 columns between a border and a space on either side, so that both panels fit 80 columns.
 ghost use Prim.Native.Nat.{_<_};
 use crate::output::put;
@@ -17,6 +18,7 @@ struct Shown {
     side: u32,
     refusal: u32,
     overspeed: bool,
+    independent: bool,
     display: Display,
 }
 
@@ -36,7 +38,7 @@ fn has(sum: u32, part: u32) -> bool
     sum / part % 2 == 1
 }
 
-// ---- the title, flight director and autopilot, the flag, the lamps
+// ---- the title, flight director and autopilot, the flags, the lamps
 
 // Whether the side has the pilot flying, in 12 columns. A display shows both PF lamps.
 fn put_role(out: &mut [u8], waiting: usize, side: u32, lamps: u32) -> usize {
@@ -66,15 +68,12 @@ fn put_switches(out: &mut [u8], waiting: usize, fd: bool, ap: bool) -> usize {
     put_either(out, at, ap, b"ON  ", b"off ")
 }
 
-fn put_flag(out: &mut [u8], waiting: usize, overspeed: bool) -> usize {
-    let clear = b"overspeed flag clear               ";
-    put_either(
-        out,
-        waiting,
-        overspeed,
-        b"OVERSPEED FLAG SET                 ",
-        clear,
-    )
+// The overspeed flag in 24 columns, and independent operation in the other 11.
+fn put_flags(out: &mut [u8], waiting: usize, overspeed: bool, independent: bool) -> usize {
+    let set = b"OVERSPEED FLAG SET      ";
+    let clear = b"overspeed flag clear    ";
+    let at = put_either(out, waiting, overspeed, set, clear);
+    put_either(out, at, independent, b"INDEPENDENT", b"           ")
 }
 
 // A lamp by its number and its part of the sum. Lit lamps stand in brackets and capitals.
@@ -115,12 +114,13 @@ fn put_armed(out: &mut [u8], waiting: usize, names: &[u8], armed: u32) -> usize 
 }
 
 // The first ten rows, of a display that was not refused.
-fn put_state(out: &mut [u8], waiting: usize, row: u32, d: Display, overspeed: bool) -> usize {
+fn put_state(out: &mut [u8], waiting: usize, row: u32, p: Shown) -> usize {
+    let d = p.display;
     let lateral = b"Off ROLL HDG NAV LAPPR LGA";
     let vertical = b"Off PITCH VS FLC ALT ALTSEL_capture ALTSEL_track VAPPR VGA";
     match row {
         1 => put_switches(out, waiting, d.fd, has(d.lamps, 64)),
-        2 => put_flag(out, waiting, overspeed),
+        2 => put_flags(out, waiting, p.overspeed, p.independent),
         3 => put_lamps(out, waiting, d.lamps),
         4 => put_text(out, waiting, b"MODES                           law"),
         5 => put_engaged(out, waiting, b"lateral   engaged  ", lateral, d.lateral),
@@ -209,7 +209,7 @@ fn put_inside(out: &mut [u8], waiting: usize, row: u32, p: Shown) -> usize {
         return put_refused(out, waiting, row);
     }
     if row < 10 {
-        return put_state(out, waiting, row, d, p.overspeed);
+        return put_state(out, waiting, row, p);
     }
     put_target(out, waiting, row - 10, d)
 }
@@ -248,6 +248,7 @@ fn panel_of(b: Bench, side: u32) -> Shown {
         side,
         refusal: a.refusal,
         overspeed: shared.overspeed,
+        independent: shared.independent,
         display,
     }
 }

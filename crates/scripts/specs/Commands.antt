@@ -95,6 +95,9 @@ noStart = 21
 abbrev pub noPairs : ℕ
 noPairs = 22
 
+abbrev pub noFlag : ℕ
+noFlag = 24
+
 -- ---- the names, in the order of their numbers from 0
 
 unfoldable pub commandNames : List ℕ
@@ -104,7 +107,7 @@ commandNames = bytes "event send refresh display pick turn knob reading press si
 unfoldable pub eventNames : List ℕ
 eventNames =
     bytes
-    "ap-disconnect ap overspeed-begins overspeed-ends go-around transfer fd-left fd-right source-changed nav-captured lappr-captured vappr-captured altsel-captured altsel-on-track hdg nav appr vs flc alt"
+    "ap-disconnect ap overspeed-begins overspeed-ends go-around transfer fd-left fd-right source-changed nav-captured lappr-captured vappr-captured altsel-captured altsel-on-track hdg nav appr vs flc alt independent"
 
 unfoldable pub sideNames : List ℕ
 sideNames = bytes "left right"
@@ -119,9 +122,9 @@ kindNames = bytes "altitude airspeed vertical-speed roll pitch heading"
 unfoldable pub watchNames : List ℕ
 watchNames = bytes "off on"
 
--- boxes, and the two other things that can be damaged
+-- boxes, and the three other things that can be damaged
 unfoldable pub damageNames : List ℕ
-damageNames = bytes "left right left-inbox right-inbox reading pf"
+damageNames = bytes "left right left-inbox right-inbox reading pf independent"
 
 -- references, and the set
 unfoldable pub partNames : List ℕ
@@ -194,11 +197,11 @@ abbrev pub isSignal : ℕ → Bool
 isSignal n = leb 2 n && leb n 3 || leb 8 n && leb n 13
 
 abbrev pub isSwitch : ℕ → Bool
-isSwitch n = leb n 19 && not (isSignal n)
+isSwitch n = leb n 20 && not (isSignal n)
 
--- the event whose name word 1 is; 20 where it is none's
+-- the event whose name word 1 is; 21 where it is none's
 unfoldable pub eventNamed : List ℕ → ℕ
-eventNamed text = lookupOf (wordOf text 1) eventNames 20
+eventNamed text = lookupOf (wordOf text 1) eventNames 21
 
 -- event n, if it is one of those that the command takes
 unfoldable pub eventIf : Bool → ℕ → ℕ → List ℕ → Command
@@ -275,6 +278,10 @@ ifSet Given.Wrong ask = Command.Wrong noSet
 unfoldable pub damagePf : List ℕ → Command
 damagePf text = ifNumber (numberAt text 2 255) (λ n. endsAt text 3 (Command.DamagePf n)) (Command.Wrong noPf)
 
+-- damage independent N: 0 is off and 1 is on
+unfoldable pub damageIndependent : List ℕ → Command
+damageIndependent text = ifNumber (numberAt text 2 1) (λ n. endsAt text 3 (Command.DamageIndependent (eqb n 1))) (Command.Wrong noFlag)
+
 -- damage BOX set LATERAL ARMED VERTICAL VAPPR-ARMED
 unfoldable pub damageSet : ℕ → List ℕ → Command
 damageSet box text =
@@ -301,7 +308,8 @@ damageBy what text =
     cond (ltb what 4) (damagePart (lookupOf (wordOf text 2) partNames 8) what text)
     (cond (eqb what 4) (ifReading (readingAt text 2) (λ r. endsAt text 4 (Command.DamageReading r)))
     (cond (eqb what 5) (damagePf text)
-    (Command.Wrong noDamage)))
+    (cond (eqb what 6) (damageIndependent text)
+    (Command.Wrong noDamage))))
 
 -- ---- the bus area
 
@@ -352,7 +360,7 @@ commandBy command text =
     (cond (eqb command 12) (endsAt text 1 Command.Panel)
     (cond (eqb command 13) (endsAt text 1 Command.Help)
     (cond (eqb command 14) (watchBy (lookupOf (wordOf text 1) watchNames 2) text)
-    (cond (eqb command 15) (damageBy (lookupOf (wordOf text 1) damageNames 6) text)
+    (cond (eqb command 15) (damageBy (lookupOf (wordOf text 1) damageNames 7) text)
     (cond (eqb command 16) (areaOfLength text)
     (cond (eqb command 17) (pokeOf text)
     (cond (eqb command 18) (writeOf text)

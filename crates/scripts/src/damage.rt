@@ -2,9 +2,10 @@
 ghost use mathlib.Core.Path.{_≡_};
 ghost use Rattle.words.specs.Words.{wordOf, lookupOf};
 ghost use Rattle.scripts.specs.Commands.{endsAt, readingAt, ifReading, figureAt, givesOff, givesOn, setBy};
-ghost use Rattle.scripts.specs.Commands.{damageNames, partNames, damagePf, damageSet, damageReference, damagePart, damageBy};
+ghost use Rattle.scripts.specs.Commands.{damageNames, partNames, damagePf, damageIndependent, damageSet, damageReference, damagePart, damageBy};
 use crate::Command;
 use crate::NO_DAMAGE;
+use crate::NO_FLAG;
 use crate::NO_PF;
 use crate::NO_REFERENCE;
 use crate::NO_SET;
@@ -40,6 +41,16 @@ fn damage_pf(text: &[u8]) -> Command
     match number {
         Number::Is(n) => ends_at(text, 3, Command::DamagePf(n)),
         Number::Wrong => Command::Wrong(NO_PF),
+    }
+}
+
+fn damage_independent(text: &[u8]) -> Command
+    ensures { λ res. ⌜ res ≡ damageIndependent (now (text .entry)) ⌝ }
+{
+    let number = number_at(text, 2, 1);
+    match number {
+        Number::Is(n) => ends_at(text, 3, Command::DamageIndependent(n == 1)),
+        Number::Wrong => Command::Wrong(NO_FLAG),
     }
 }
 
@@ -128,7 +139,7 @@ fn damage_box(part: u32, text: &[u8]) -> Command
     damage_part(what, part, text)
 }
 
-// What is damaged: a box, a reading or the pilot flying.
+// What is damaged: a box, a reading, the pilot flying or independent operation.
 fn damage_by(what: usize, text: &[u8]) -> Command
     ensures { λ res. ⌜ res ≡ damageBy what (now (text .entry)) ⌝ }
 {
@@ -138,14 +149,15 @@ fn damage_by(what: usize, text: &[u8]) -> Command
     match what {
         4 => damage_reading(text),
         5 => damage_pf(text),
+        6 => damage_independent(text),
         _ => Command::Wrong(NO_DAMAGE),
     }
 }
 
 pub(crate) fn damage(text: &[u8]) -> Command
-    ensures { λ res. ⌜ res ≡ damageBy (lookupOf (wordOf (now (text .entry)) 1) damageNames 6) (now (text .entry)) ⌝ }
+    ensures { λ res. ⌜ res ≡ damageBy (lookupOf (wordOf (now (text .entry)) 1) damageNames 7) (now (text .entry)) ⌝ }
 {
-    let names = b"left right left-inbox right-inbox reading pf";
-    let what = words::lookup(words::word(text, 1), names, 6);
+    let names = b"left right left-inbox right-inbox reading pf independent";
+    let what = words::lookup(words::word(text, 1), names, 7);
     damage_by(what, text)
 }

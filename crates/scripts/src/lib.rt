@@ -43,6 +43,7 @@ pub enum Command {
     DamageReading(Reading),
     DamageSet(u32, ModeSet),
     DamageReference(u32, u32, i32),
+    DamageIndependent(bool),
     // what goes to the bus area and from it; a place there has 64 bits
     Area(u32),
     // the bytes stand in the line: `pairs_of`
@@ -98,6 +99,8 @@ pub const NO_START: u32 = 21;
 pub const NO_PAIRS: u32 = 22;
 
 pub const NO_ROOM: u32 = 23;
+
+pub const NO_FLAG: u32 = 24;
 
 fn event(text: &[u8]) -> Command
     ensures { λ res. ⌜ res ≡ eventOf (now (text .entry)) ⌝ }
@@ -191,15 +194,15 @@ fn clicks(text: &[u8]) -> Command
     }
 }
 
-// The event whose name word 1 is, by its number; 20 where it is none's.
+// The event whose name word 1 is, by its number; 21 where it is none's.
 fn event_named(text: &[u8]) -> usize
     ensures { λ res. ⌜ res ≡ eventNamed (now (text .entry)) ⌝ }
 {
     let names =
         b"ap-disconnect ap overspeed-begins overspeed-ends go-around transfer fd-left fd-right \
         source-changed nav-captured lappr-captured vappr-captured altsel-captured altsel-on-track \
-        hdg nav appr vs flc alt";
-    words::lookup(words::word(text, 1), names, 20)
+        hdg nav appr vs flc alt independent";
+    words::lookup(words::word(text, 1), names, 21)
 }
 
 fn is_signal(n: usize) -> bool
@@ -211,12 +214,12 @@ fn is_signal(n: usize) -> bool
 fn is_switch(n: usize) -> bool
     ensures { λ res. ⌜ res ≡ isSwitch n ⌝ }
 {
-    (n <= 19) & !is_signal(n)
+    (n <= 20) & !is_signal(n)
 }
 
 // The word of an event alone.
 fn word_of(n: usize) -> u32
-    requires { ⌜ n < 20 ⌝ }
+    requires { ⌜ n < 21 ⌝ }
     ensures { λ res. ⌜ res ≡ 2 ^ n ⌝ }
 {
     1 << n
@@ -224,7 +227,7 @@ fn word_of(n: usize) -> u32
 
 // Event n, if it is one of those that the command takes; else what is wrong.
 fn event_if(taken: bool, why: u32, n: usize, text: &[u8]) -> Command
-    requires { ⌜ (taken ≡ true → n < 20) ⌝ }
+    requires { ⌜ (taken ≡ true → n < 21) ⌝ }
     ensures { λ res. ⌜ res ≡ eventIf taken why n (now (text .entry)) ⌝ }
 {
     if taken {

@@ -36,6 +36,7 @@ module _ (line : List ℕ) (b : Bench) (area : List ℕ) (h : length area ≤ 20
   by-command (Command.DamageReading r) k = h
   by-command (Command.DamageSet n set) k = h
   by-command (Command.DamageReference n place x) k = h
+  by-command (Command.DamageIndependent on) k = h
   by-command (Command.Area n) k = rw (length-replicate {A = ℕ} n 0) (k n refl)
   by-command (Command.Poke start) k = rw (poked-length start (pokedBytes line) area) h
   by-command (Command.Write side start) k = rw (frame-laws .same-length b side start area) h

@@ -232,10 +232,9 @@ fn three_steps(e: Event, b: Bench) -> Bench
 fn begin_independent(b: Bench) -> Bench
     ensures { λ res. ⌜ res ≡ begun b ⌝ }
 {
-    let shared = b.shared;
     let both = bench::both_approach(b);
     if both {
-        bench::parts::with_shared(b, bench::parts::with_independent(shared, true))
+        bench::parts::with_operation(b, true)
     } else {
         b
     }

@@ -1,4 +1,4 @@
--- `scripts::word_of` meets its contract: a power of two below 2 ^ 20 is its own remainder by 2 ^ 32. Assumes nothing.
+-- `scripts::word_of` meets its contract: a power of two below 2 ^ 21 is its own remainder by 2 ^ 32. Assumes nothing.
 use native.Mathlib.Omega.{arith}
 use native.Mathlib.Nat.{one-mul, mod-eq-of-lt}
 use lib.Pow.{pow-lt}

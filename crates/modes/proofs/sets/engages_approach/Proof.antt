@@ -18,12 +18,12 @@ unfolding engaged
 by-laws s p q = rw (p, q, lateral-shown 4 LAPPR tt s, vertical-shown 7 VAPPR tt s)
 
 returns : tie.Need-returns
-returns c = let at-law = c .before .before in rw (← by-laws _ (at-law .before .lateral-law .ensures) (at-law .vertical-law .ensures), c .before .match .keys1, c .match2 .keys1)
+returns c = let at-law = c .before .before in rw (← by-laws _ (at-law .before .lateral-law .ensures) (at-law .vertical-law .ensures), c .match2 .keys1, c .before .match .keys1)
 
 returns-2 : tie.Need-returns-2
 returns-2 c =
     let at-law = c .before .before in
-    rw (← by-laws _ (at-law .before .lateral-law .ensures) (at-law .vertical-law .ensures), c .before .match .keys1, ne-eqb _ _ (c .match2 .rest .1))
+    rw (← by-laws _ (at-law .before .lateral-law .ensures) (at-law .vertical-law .ensures), ne-eqb _ _ (c .match2 .rest .1), c .before .match .keys1)
 
 returns-3 : tie.Need-returns-3
 returns-3 c = rw (← by-laws _ (c .before .before .lateral-law .ensures) (c .before .vertical-law .ensures), ne-eqb _ _ (c .match .rest .1))

@@ -11,7 +11,8 @@ damage-by-spec =
     tie.close (tie.spec
     (λ c. search needs) (λ c κs. search needs)
     (λ c. rw (lt-ltb _ _ (c .before .if1 .taken)) (c .damage-box .ensures))
-    (λ c κs. search needs) (λ c κs. search needs)
+    (λ c κs. search needs) (λ c κs. search needs) (λ c κs. search needs)
     (λ c. rw (c .before .match .keys1) (c .damage-reading .ensures))
     (λ c. rw (c .before .match .keys2) (c .damage-pf .ensures))
-    (λ c. let r = c .match .rest in simp (le-ltb _ _ (c .before .if1 .left), ne-eqb _ _ (r .1), ne-eqb _ _ (r .0 .1))))
+    (λ c. rw (c .before .match .keys3) (c .damage-independent .ensures))
+    (λ c. let r = c .match .rest in simp (le-ltb _ _ (c .before .if1 .left), ne-eqb _ _ (r .1), ne-eqb _ _ (r .0 .1), ne-eqb _ _ (r .0 .0 .1))))
