@@ -2,6 +2,7 @@
 
 mod damage;
 mod frames;
+mod independent;
 mod knobs;
 mod language;
 mod panels;
@@ -9,6 +10,7 @@ pub mod random;
 mod readings;
 mod sets;
 mod sheet;
+mod shown;
 mod words;
 
 use crate::gate::{Gate, Stop};
@@ -23,7 +25,7 @@ pub struct Part {
 const SAME: &str = "same answers";
 
 /// The drawings come last, so that all that two programs can differ in is seen before.
-pub const ALL: [Part; 9] = [
+pub const ALL: [Part; 10] = [
     Part {
         name: "bench sheet",
         found: SAME,
@@ -53,6 +55,11 @@ pub const ALL: [Part; 9] = [
         name: "script language",
         found: SAME,
         run: language::run,
+    },
+    Part {
+        name: "independent operation",
+        found: SAME,
+        run: independent::run,
     },
     Part {
         name: "random lists",

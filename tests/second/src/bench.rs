@@ -171,6 +171,8 @@ pub struct Bench {
     pub pf: u8,
     pub ap: bool,
     pub overspeed: bool,
+    /// Whether both sides are flown, each on its own approach.
+    pub independent: bool,
     pub counts: [u8; 4],
     pub readings: [u64; 6],
     pub sides: [Channel; 2],
@@ -186,6 +188,7 @@ impl Bench {
             pf: 0,
             ap: false,
             overspeed: false,
+            independent: false,
             counts: [0; 4],
             readings,
             sides: [Channel::POWER_ON; 2],
@@ -193,13 +196,19 @@ impl Bench {
         }
     }
 
-    /// The number of the active side. The bench has to be sound.
-    pub fn active(&self) -> usize {
-        usize::from(self.pf)
+    /// The sides that events and knobs act on: the pilot flying's, or both in
+    /// independent operation. The bench has to be sound.
+    pub fn acting(&self) -> &'static [usize] {
+        match (self.independent, self.pf) {
+            (true, _) => &[0, 1],
+            (false, 0) => &[0],
+            (false, _) => &[1],
+        }
     }
 
-    pub fn active_side(&mut self) -> &mut Channel {
-        &mut self.sides[usize::from(self.pf)]
+    /// What independent operation needs, from its beginning to its end.
+    pub fn both_on_approach(&self) -> bool {
+        self.sides.iter().all(|side| side.modes.is_on_approach())
     }
 
     pub fn reading(&self, kind: Kind) -> u64 {
@@ -209,6 +218,7 @@ impl Bench {
     pub fn is_sound(&self) -> bool {
         let channels = || self.sides.iter().chain(&self.inboxes);
         self.pf <= 1
+            && (!self.independent || self.both_on_approach())
             && channels().all(Channel::is_sound)
             && Kind::ALL
                 .iter()

@@ -8,8 +8,11 @@ use crate::sets::{Mode::*, ModeSet};
 /// every refused event call.
 pub const NO_EVENT: u32 = 32;
 
+/// The event that turns independent operation on.
+const INDEPENDENT: u32 = 20;
+
 /// The number of events; a word with a bit from here on is refused.
-const EVENTS: u32 = 20;
+const EVENTS: u32 = 21;
 
 fn check_sound(bench: &Bench) -> Result<(), Refusal> {
     if bench.is_sound() {
@@ -45,19 +48,37 @@ pub fn event(bench: &mut Bench, word: u32) -> Result<u32, Refusal> {
     Ok(event)
 }
 
-/// The three steps of an event, and then entry.
+/// The event that touches nothing but independent operation has no steps.
 fn act(bench: &mut Bench, event: u32) {
-    let before = *bench;
-    let rule = events::rule(event, &before);
-    first_step(bench, &rule);
-    second_step(bench);
-    change_modes(bench, rule.modes);
-    enter(&before, bench);
+    if event == INDEPENDENT {
+        bench.independent = bench.both_on_approach();
+        return;
+    }
+    let rule = events::rule(event, bench);
+    if rule.transfer {
+        // From here on it is a transfer like any other.
+        bench.independent = false;
+    }
+    with_entry(bench, |bench| three_steps(bench, &rule));
 }
 
-/// One flight director, and what both sides share.
+fn three_steps(bench: &mut Bench, rule: &Rule) {
+    first_step(bench, rule);
+    for &side in bench.acting() {
+        second_step(bench, side);
+        change_modes(&mut bench.sides[side], rule.modes);
+    }
+}
+
+/// Flight directors, and what both sides share.
 fn first_step(bench: &mut Bench, rule: &Rule) {
-    if let Some((side, on)) = rule.fd {
+    let acting = bench.acting();
+    let asks = |&side: &usize| (rule.asks_fd_on)(bench.sides[side].modes);
+    let fd_on = acting.iter().any(asks);
+    for &side in acting {
+        bench.sides[side].fd |= fd_on;
+    }
+    if let Some((side, on)) = rule.fd_switch {
         bench.sides[side].fd = on;
     }
     if let Some(engaged) = rule.ap {
@@ -71,31 +92,39 @@ fn first_step(bench: &mut Bench, rule: &Rule) {
     }
 }
 
-/// The On rule, for the active side.
-fn second_step(bench: &mut Bench) {
-    let inbox_fd = bench.inboxes[bench.active()].fd;
-    let ap = bench.ap;
-    let side = bench.active_side();
-    let on = side.fd || inbox_fd || ap;
+/// The On rule, for one side.
+fn second_step(bench: &mut Bench, side: usize) {
+    let on = bench.sides[side].fd || bench.inboxes[side].fd || bench.ap;
+    let modes = &mut bench.sides[side].modes;
     if !on {
-        side.modes = ModeSet::OFF;
-    } else if side.modes.is_off() {
-        side.modes = ModeSet::BASIC;
+        *modes = ModeSet::OFF;
+    } else if modes.is_off() {
+        *modes = ModeSet::BASIC;
     }
 }
 
 /// The mode changes of an event; a side that is Off has none.
-fn change_modes(bench: &mut Bench, change: fn(&mut ModeSet)) {
-    let modes = &mut bench.active_side().modes;
+fn change_modes(side: &mut Channel, change: fn(&mut ModeSet)) {
+    let modes = &mut side.modes;
     if !modes.is_off() {
         change(modes);
         modes.complete();
     }
 }
 
-/// Loads the references of modes that the call has newly engaged. The side is
-/// the one that is active at its end.
-fn enter(before: &Bench, bench: &mut Bench) {
+/// Does what a call does, and then entry on the sides that it acts on. Only
+/// after both is it judged whether independent operation goes on.
+fn with_entry(bench: &mut Bench, change: impl FnOnce(&mut Bench)) {
+    let before = *bench;
+    change(bench);
+    for &side in bench.acting() {
+        enter(&before, bench, side);
+    }
+    bench.independent &= bench.both_on_approach();
+}
+
+/// Loads the references of modes that the call has newly engaged on a side.
+fn enter(before: &Bench, bench: &mut Bench, side: usize) {
     let loads = [
         (Roll, Reference::Roll, Kind::Roll),
         (Pitch, Reference::Pitch, Kind::Pitch),
@@ -103,20 +132,19 @@ fn enter(before: &Bench, bench: &mut Bench) {
         (Flc, Reference::Ias, Kind::Airspeed),
         (Alt, Reference::Held, Kind::Altitude),
     ];
-    let side = bench.active();
     let earlier = before.sides[side].modes;
     let now = bench.sides[side].modes;
     for (mode, reference, kind) in loads {
         if now.is_engaged(mode) && !earlier.is_engaged(mode) {
-            load(bench, reference, kind);
+            load(bench, side, reference, kind);
         }
     }
 }
 
-fn load(bench: &mut Bench, reference: Reference, kind: Kind) {
+fn load(bench: &mut Bench, side: usize, reference: Reference, kind: Kind) {
     // A sound bench holds no reading without a whole value.
     if let Ok(value) = kind.whole(bench.reading(kind)) {
-        let references = &mut bench.active_side().references;
+        let references = &mut bench.sides[side].references;
         references.put_clamped(reference, value);
     }
 }
@@ -131,10 +159,8 @@ pub fn send(bench: &mut Bench, side: u32) -> Result<(), Refusal> {
 
 pub fn refresh(bench: &mut Bench, side: u32) -> Result<(), Refusal> {
     let side = check_side(bench, side)?;
-    if side == bench.active() {
-        let before = *bench;
-        second_step(bench);
-        enter(&before, bench);
+    if bench.acting().contains(&side) {
+        with_entry(bench, |bench| second_step(bench, side));
     } else {
         // FD stays the side's own.
         bench.sides[side].modes = bench.inboxes[side].modes;
@@ -158,57 +184,57 @@ pub fn turn(bench: &mut Bench, knob: u32, count: u8) -> Result<(), Refusal> {
     bench.counts[knob as usize] = count;
     let r = rotation(old, count);
     if r != 0 {
-        let before = *bench;
-        turn_knob(bench, knob, r);
-        enter(&before, bench);
+        with_entry(bench, |bench| {
+            for &side in bench.acting() {
+                turn_knob(&mut bench.sides[side], knob, r);
+            }
+        });
     }
     Ok(())
 }
 
-fn turn_knob(bench: &mut Bench, knob: u32, r: i32) {
+fn turn_knob(side: &mut Channel, knob: u32, r: i32) {
     match knob {
-        0 => turn_wheel(bench, r),
-        1 => turn_altitude(bench, r),
-        2 => add(bench, Reference::Ias, r),
-        _ => turn_heading(bench, r),
+        0 => turn_wheel(side, r),
+        1 => turn_altitude(side, r),
+        2 => add(side, Reference::Ias, r),
+        _ => turn_heading(side, r),
     }
 }
 
-/// Adds to a reference of the active side and clamps it to its range.
-fn add(bench: &mut Bench, reference: Reference, amount: i32) {
-    let references = &mut bench.active_side().references;
-    references.put_clamped(reference, references.get(reference) + amount);
+/// Adds to a reference of a side and clamps it to its range.
+fn add(side: &mut Channel, reference: Reference, amount: i32) {
+    let old = side.references.get(reference);
+    side.references.put_clamped(reference, old + amount);
 }
 
-fn turn_wheel(bench: &mut Bench, r: i32) {
-    let modes = bench.active_side().modes;
+fn turn_wheel(side: &mut Channel, r: i32) {
+    let modes = side.modes;
     if modes.is_off() || modes.is_engaged(Vappr) {
         return;
     }
     if modes.is_engaged(Vs) {
-        add(bench, Reference::VerticalSpeed, r);
+        add(side, Reference::VerticalSpeed, r);
     } else if modes.is_engaged(Pitch) {
-        add(bench, Reference::Pitch, r);
+        add(side, Reference::Pitch, r);
     } else {
-        change_modes(bench, |set| set.engage(Pitch));
+        change_modes(side, |set| set.engage(Pitch));
     }
 }
 
-fn turn_altitude(bench: &mut Bench, r: i32) {
-    let preselected = |side: &mut Channel| side.references.get(Reference::Preselected);
-    let old = preselected(bench.active_side());
-    add(bench, Reference::Preselected, 100 * r);
-    let changed = preselected(bench.active_side()) != old;
-    if changed && bench.active_side().modes.is_engaged(Altsel) {
+fn turn_altitude(side: &mut Channel, r: i32) {
+    let old = side.references.get(Reference::Preselected);
+    add(side, Reference::Preselected, 100 * r);
+    let changed = side.references.get(Reference::Preselected) != old;
+    if changed && side.modes.is_engaged(Altsel) {
         // The captured altitude is no longer the target.
-        change_modes(bench, |set| set.engage(Pitch));
+        change_modes(side, |set| set.engage(Pitch));
     }
 }
 
-fn turn_heading(bench: &mut Bench, r: i32) {
-    let references = &mut bench.active_side().references;
-    let heading = (references.get(Reference::Heading) + r).rem_euclid(360);
-    references.put(Reference::Heading, heading);
+fn turn_heading(side: &mut Channel, r: i32) {
+    let heading = (side.references.get(Reference::Heading) + r).rem_euclid(360);
+    side.references.put(Reference::Heading, heading);
 }
 
 // ---- Readings ----

@@ -135,6 +135,7 @@ fn parted<T>(result: Result<T, Refusal>, refused: T) -> (u32, T) {
 fn carry_out_damage(bench: &mut Bench, damage: Damage) {
     match damage {
         Damage::Pf(side) => bench.pf = side,
+        Damage::Independent(on) => bench.independent = on,
         Damage::Set(place, set) => channel(bench, place).modes = set,
         Damage::Reference(place, reference, value) => {
             channel(bench, place).references.put(reference, value);
@@ -243,8 +244,9 @@ fn write_help(output: &mut impl Write) -> io::Result<()> {
 }
 
 fn write_bench(bench: &Bench, output: &mut impl Write) -> io::Result<()> {
-    let (ap, overspeed) = (u32::from(bench.ap), u32::from(bench.overspeed));
-    write!(output, "bench {} {ap} {overspeed}", bench.pf)?;
+    write!(output, "bench {}", bench.pf)?;
+    let flags = [bench.ap, bench.overspeed, bench.independent];
+    write_numbers(&flags.map(i32::from), output)?;
     write_numbers(&bench.counts.map(i32::from), output)?;
     for bits in bench.readings {
         write_reading(bits, output)?;

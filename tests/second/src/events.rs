@@ -1,17 +1,26 @@
 //! The rule of each event, in one place.
 //!
-//! A rule is drawn up from the bench that came. It says what the first step
-//! does with a flight director and with what both sides share. Its mode changes
-//! are a function, because they need the set as it is after the second step.
+//! A rule is drawn up once for a call, from the bench that came. It says what the
+//! first step does with a switched flight director and with what both sides
+//! share. What depends on a side's set is a function, because each side acted on
+//! is judged on its own: for FD On as it came, and for the mode changes as it is
+//! after the second step.
 
 use crate::bench::Bench;
 use crate::sets::{Mode::*, ModeSet};
 
 type ModeChange = fn(&mut ModeSet);
 
+/// Whether a side with this set asks for FD On.
+type Asks = fn(ModeSet) -> bool;
+
+const ALWAYS: Asks = |_| true;
+const NEVER: Asks = |_| false;
+
 pub struct Rule {
-    /// The side whose FD is set, and what it is set to.
-    pub fd: Option<(usize, bool)>,
+    pub asks_fd_on: Asks,
+    /// The side whose FD switch it is, and what that FD becomes.
+    pub fd_switch: Option<(usize, bool)>,
     pub ap: Option<bool>,
     pub overspeed: Option<bool>,
     pub transfer: bool,
@@ -19,11 +28,33 @@ pub struct Rule {
 }
 
 const NOTHING: Rule = Rule {
-    fd: None,
+    asks_fd_on: NEVER,
+    fd_switch: None,
     ap: None,
     overspeed: None,
     transfer: false,
     modes: |_| {},
+};
+
+const OVERSPEED_BEGINS: Rule = Rule {
+    overspeed: Some(true),
+    asks_fd_on: ALWAYS,
+    modes: |set| {
+        if !set.is_engaged(Alt) && !set.is_engaged(Altsel) {
+            set.engage(Flc);
+        }
+    },
+    ..NOTHING
+};
+
+const GO_AROUND: Rule = Rule {
+    ap: Some(false),
+    asks_fd_on: ALWAYS,
+    modes: |set| {
+        set.engage(Lga);
+        set.engage(Vga);
+    },
+    ..NOTHING
 };
 
 /// The rule of an event from 0 to 19.
@@ -40,7 +71,6 @@ pub fn rule(event: u32, bench: &Bench) -> Rule {
 
 /// Events that change what both sides share, or an FD.
 fn shared_rule(event: u32, bench: &Bench) -> Rule {
-    let fd_on = Some((bench.active(), true));
     match event {
         // AP disconnect.
         0 => Rule {
@@ -50,36 +80,19 @@ fn shared_rule(event: u32, bench: &Bench) -> Rule {
         // AP engage switch.
         1 => Rule {
             ap: Some(!bench.ap),
-            fd: if bench.ap { None } else { fd_on },
+            asks_fd_on: if bench.ap { NEVER } else { ALWAYS },
             ..NOTHING
         },
         // Overspeed begins; a second beginning does nothing.
         2 if bench.overspeed => NOTHING,
-        2 => Rule {
-            overspeed: Some(true),
-            fd: fd_on,
-            modes: |set| {
-                if !set.is_engaged(Alt) && !set.is_engaged(Altsel) {
-                    set.engage(Flc);
-                }
-            },
-            ..NOTHING
-        },
+        2 => OVERSPEED_BEGINS,
         // Overspeed ends.
         3 => Rule {
             overspeed: Some(false),
             ..NOTHING
         },
         // Go-around.
-        4 => Rule {
-            ap: Some(false),
-            fd: fd_on,
-            modes: |set| {
-                set.engage(Lga);
-                set.engage(Vga);
-            },
-            ..NOTHING
-        },
+        4 => GO_AROUND,
         // Transfer: armed modes go, ROLL and PITCH come; what is left is basic.
         5 => Rule {
             transfer: true,
@@ -96,7 +109,7 @@ fn shared_rule(event: u32, bench: &Bench) -> Rule {
 fn fd_switch(side: usize, bench: &Bench) -> Rule {
     let on = bench.overspeed || !bench.sides[side].fd;
     Rule {
-        fd: Some((side, on)),
+        fd_switch: Some((side, on)),
         ..NOTHING
     }
 }
@@ -130,45 +143,43 @@ fn signal_rule(event: u32, bench: &Bench) -> ModeChange {
 
 /// The mode switches. One that finds its mode selected does not touch FD.
 fn switch_rule(event: u32, bench: &Bench) -> Rule {
-    let set = bench.sides[bench.active()].modes;
-    let (found, modes): (bool, ModeChange) = match event {
+    let (asks_fd_on, modes): (Asks, ModeChange) = match event {
         // HDG.
-        14 => (set.is_engaged(Hdg), |set| set.toggle(Hdg)),
+        14 => (|set| !set.is_engaged(Hdg), |set| set.toggle(Hdg)),
         // NAV.
-        15 => (!set.is_cleared(Nav), |set| {
-            if set.is_cleared(Nav) {
-                set.clear_if_armed(Lappr);
-                set.arm(Nav);
-            } else {
-                set.clear(Nav);
-            }
-        }),
+        15 => (|set| set.is_cleared(Nav), press_nav),
         // APPR.
-        16 => (!set.is_cleared(Lappr), |set| {
-            if set.is_cleared(Lappr) {
-                set.clear_if_armed(Nav);
-                set.arm(Lappr);
-                set.arm(Vappr);
-            } else {
-                set.clear(Lappr);
-            }
-        }),
+        16 => (|set| set.is_cleared(Lappr), press_appr),
         // VS.
-        17 => (set.is_engaged(Vs), |set| set.toggle(Vs)),
+        17 => (|set| !set.is_engaged(Vs), |set| set.toggle(Vs)),
         // FLC; during overspeed an engaged one stays.
-        18 if bench.overspeed => (set.is_engaged(Flc), |set| set.engage(Flc)),
-        18 => (set.is_engaged(Flc), |set| set.toggle(Flc)),
+        18 if bench.overspeed => (|set| !set.is_engaged(Flc), |set| set.engage(Flc)),
+        18 => (|set| !set.is_engaged(Flc), |set| set.toggle(Flc)),
         // ALT.
-        _ => (set.is_engaged(Alt), |set| set.toggle(Alt)),
-    };
-    let fd = if found {
-        None
-    } else {
-        Some((bench.active(), true))
+        _ => (|set| !set.is_engaged(Alt), |set| set.toggle(Alt)),
     };
     Rule {
-        fd,
+        asks_fd_on,
         modes,
         ..NOTHING
+    }
+}
+
+fn press_nav(set: &mut ModeSet) {
+    if set.is_cleared(Nav) {
+        set.clear_if_armed(Lappr);
+        set.arm(Nav);
+    } else {
+        set.clear(Nav);
+    }
+}
+
+fn press_appr(set: &mut ModeSet) {
+    if set.is_cleared(Lappr) {
+        set.clear_if_armed(Nav);
+        set.arm(Lappr);
+        set.arm(Vappr);
+    } else {
+        set.clear(Lappr);
     }
 }

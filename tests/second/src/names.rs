@@ -24,6 +24,7 @@ pub fn switch(word: &[u8]) -> Option<u32> {
         b"vs" => Some(17),
         b"flc" => Some(18),
         b"alt" => Some(19),
+        b"independent" => Some(20),
         _ => None,
     }
 }
@@ -108,7 +109,7 @@ pub fn kind(word: &[u8]) -> Option<Kind> {
 pub mod tests {
     use super::*;
 
-    pub const SWITCHES: [(&str, u32); 12] = [
+    pub const SWITCHES: [(&str, u32); 13] = [
         ("ap-disconnect", 0),
         ("ap", 1),
         ("go-around", 4),
@@ -121,6 +122,7 @@ pub mod tests {
         ("vs", 17),
         ("flc", 18),
         ("alt", 19),
+        ("independent", 20),
     ];
 
     pub const SIGNALS: [(&str, u32); 8] = [
@@ -146,7 +148,7 @@ pub mod tests {
         }
         let mut events: Vec<u32> = SWITCHES.iter().chain(&SIGNALS).map(|row| row.1).collect();
         events.sort_unstable();
-        assert_eq!(events, (0..20).collect::<Vec<_>>());
+        assert_eq!(events, (0..21).collect::<Vec<_>>());
     }
 
     #[test]

@@ -57,6 +57,7 @@ pub enum Bus {
 #[derive(Clone, Copy, PartialEq, Eq, Debug)]
 pub enum Damage {
     Pf(u8),
+    Independent(bool),
     Set(Place, ModeSet),
     Reference(Place, Reference, i32),
     Reading(Kind, u64),
@@ -70,7 +71,7 @@ const NAME: Problem = "a command is event, press, signal, turn, knob, reading, s
 const ALONE: Problem = "this command is one word alone";
 const EVENT: Problem = "event takes one number from 0 to 4294967295";
 const PRESS: Problem = "press takes one switch: ap-disconnect, ap, go-around, transfer, fd-left, \
-    fd-right, hdg, nav, appr, vs, flc or alt";
+    fd-right, hdg, nav, appr, vs, flc, alt or independent";
 const SIGNAL: Problem = "signal takes one signal: overspeed-begins, overspeed-ends, \
     source-changed, nav-captured, lappr-captured, vappr-captured, altsel-captured or \
     altsel-on-track";
@@ -87,8 +88,10 @@ const KIND: Problem = "a kind is altitude, airspeed, vertical-speed, roll, pitch
 const VALUE: Problem = "a value is a decimal number with at most 15 significant digits and at \
     most 15 after the point, or 0x and 16 hexadecimal digits, or nan, inf or -inf";
 const WATCH: Problem = "watch takes on or off";
-const DAMAGE: Problem = "damage takes pf, reading, left, right, left-inbox or right-inbox first";
+const DAMAGE: Problem = "damage takes pf, independent, reading, left, right, left-inbox or \
+    right-inbox first";
 const PF: Problem = "damage pf takes one number from 0 to 255";
+const INDEPENDENT: Problem = "damage independent takes 0 or 1";
 const SET: Problem = "a set is lateral 1 to 5, armed 0 to 2, vertical 1 to 8 and vappr-armed 0 or \
     1, or 0 and three numbers for Off";
 const TARGET: Problem = "here goes set and four numbers, or a reference and a number";
@@ -103,7 +106,7 @@ const START: Problem = "here goes one start, a number from 0 to 1844674407370955
 const BYTES: Problem = "bytes are pairs of hexadecimal digits without anything between";
 
 /// The commands, for people who ask for help.
-pub const FORMS: [&str; 24] = [
+pub const FORMS: [&str; 25] = [
     "event WORD",
     "press SWITCH",
     "signal SIGNAL",
@@ -118,6 +121,7 @@ pub const FORMS: [&str; 24] = [
     "bench",
     "panel",
     "damage pf N",
+    "damage independent N",
     "damage BOX set LATERAL ARMED VERTICAL VAPPR-ARMED",
     "damage BOX REFERENCE N",
     "damage reading KIND VALUE",
@@ -250,6 +254,7 @@ fn reading(arguments: &[&[u8]]) -> Result<(Kind, u64), Problem> {
 fn damage(arguments: &[&[u8]]) -> Result<Damage, Problem> {
     match arguments {
         [b"pf", rest @ ..] => one(rest, byte, PF).map(Damage::Pf),
+        [b"independent", rest @ ..] => one(rest, flag, INDEPENDENT).map(Damage::Independent),
         [b"reading", rest @ ..] => reading(rest).map(|(kind, bits)| Damage::Reading(kind, bits)),
         [name, rest @ ..] => damage_in(names::place(name).ok_or(DAMAGE)?, rest),
         [] => Err(DAMAGE),
@@ -343,6 +348,14 @@ fn digits(word: &[u8]) -> Option<u128> {
 
 fn number(word: &[u8]) -> Option<u32> {
     u32::try_from(digits(word)?).ok()
+}
+
+fn flag(word: &[u8]) -> Option<bool> {
+    match number(word)? {
+        0 => Some(false),
+        1 => Some(true),
+        _ => None,
+    }
 }
 
 fn byte(word: &[u8]) -> Option<u8> {
@@ -693,6 +706,7 @@ mod tests {
             "refresh left",
             "power-on",
             "damage pf 0",
+            "damage independent 0",
             "damage left set 0 0 0 0",
         ] {
             assert!(watched(line), "{line}");
@@ -727,12 +741,16 @@ mod tests {
             "ev\tent 1",
             "press",
             "press 14",
+            "press 20",
+            "press Independent",
+            "press independent 1",
             "press hdg nav",
             "press Hdg",
             "press left",
             "press heading",
             "signal",
             "signal 9",
+            "signal independent",
             "signal nav",
             "signal nav_captured",
             "signal nav captured",
@@ -784,6 +802,13 @@ mod tests {
             "damage pf",
             "damage pf 256",
             "damage pf left",
+            "damage independent",
+            "damage independent 2",
+            "damage independent -1",
+            "damage independent on",
+            "damage independent 1 1",
+            "damage independents 1",
+            "damage left independent 1 1",
             "damage 0 ias 100",
             "damage left",
             "damage left set 0 0 0",
@@ -862,6 +887,7 @@ mod tests {
             ("even 1", "knob"),
             ("event hdg", "4294967295"),
             ("press nav-captured", "ap-disconnect"),
+            ("press both", "alt or independent"),
             ("signal hdg", "nav-captured"),
             ("turn left 7", "wheel"),
             ("turn wheel 256", "255"),
@@ -872,6 +898,8 @@ mod tests {
             ("reading roll 1e5", "hexadecimal"),
             ("watch up", "on or off"),
             ("damage pf 256", "255"),
+            ("damage dependent 1", "independent"),
+            ("damage independent 2", "0 or 1"),
             ("damage middle ias 1", "left-inbox"),
             ("damage left speed 1", "ias"),
             ("damage left ias x", "-2147483648"),
@@ -896,6 +924,9 @@ mod tests {
     fn damage_of_every_form() {
         let pairs = [
             ("pf 255", Damage::Pf(255)),
+            ("independent 0", Damage::Independent(false)),
+            ("independent 1", Damage::Independent(true)),
+            ("independent 001", Damage::Independent(true)),
             (
                 "left set 0 0 0 0",
                 Damage::Set(Place::Side(0), ModeSet::OFF),

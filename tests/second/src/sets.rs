@@ -80,6 +80,11 @@ impl ModeSet {
         !self.is_engaged(mode) && !self.is_armed(mode)
     }
 
+    /// Whether both approach modes steer.
+    pub fn is_on_approach(self) -> bool {
+        self.is_engaged(Lappr) && self.is_engaged(Vappr)
+    }
+
     fn any_engaged(self, modes: &[Mode]) -> bool {
         self.engaged & group(modes) != 0
     }

@@ -2,11 +2,13 @@
 
 mod circles;
 mod frames;
+mod independent;
 mod refusals;
 mod rules;
 mod scripts;
 mod sheet;
 mod walk;
+mod words;
 
 use crate::bench::{Bench, Kind, Reference, Refusal};
 use crate::calls::{self, Display};

@@ -6,10 +6,11 @@ use crate::say;
 use crate::script::Script;
 
 /// Calls with good arguments and with bad ones, so that the order of refusals is seen.
-const CALLS: [&str; 24] = [
+const CALLS: [&str; 25] = [
     "event 0",
     "event 16384",
     "event 1048576",
+    "event 2097152",
     "event 4293918721",
     "turn 0 1",
     "turn 3 200",
@@ -80,6 +81,7 @@ fn script(start: &[&str]) -> Script {
 fn damages() -> Vec<String> {
     let mut damages: Vec<String> = Vec::new();
     damages.extend([0, 1, 2, 3, 127, 128, 254, 255].map(|side| format!("pf {side}")));
+    damages.extend([0, 1].map(|on| format!("independent {on}")));
     for place in BOXES {
         damages.extend(of_references(place));
         damages.push(format!("{place} set {}", Set::OFF));
@@ -144,8 +146,8 @@ fn of_readings() -> Vec<String> {
     damages
 }
 
-/// Two damages at once, and a damage that a second one undoes.
-const TWICE: [&str; 8] = [
+/// Several damages at once, and a damage that a second one undoes.
+const TWICE: [&str; 14] = [
     "pf 2 and reading roll nan",
     "left set 1 0 7 0 and right ias 401",
     "reading altitude inf and reading heading 361",
@@ -154,6 +156,12 @@ const TWICE: [&str; 8] = [
     "pf 7 and pf 1",
     "right-inbox set 5 2 8 0 and right-inbox set 5 2 8 1",
     "left-inbox pitch 21 and left-inbox pitch 20",
+    "independent 1 and independent 0",
+    "independent 1 and pf 2",
+    "left set 4 0 7 0 and independent 1",
+    "right set 4 0 7 0 and independent 1",
+    "left set 4 0 7 0 and right set 4 1 7 0 and independent 1",
+    "independent 1 and left set 4 1 7 0 and right set 4 0 7 0 and right roll 28",
 ];
 
 #[cfg(test)]
@@ -166,10 +174,11 @@ mod tests {
         let boxes = 4 * (7 * 11 + 241);
         // Two kinds go on for one more unit at their high end.
         let readings = 6 * (2 * 7 * 3 + 5 + 3 + 4) + 2 * 2 * 3;
-        assert_eq!(damages().len(), 8 + boxes + readings + TWICE.len());
+        assert_eq!(damages().len(), 8 + 2 + boxes + readings + TWICE.len());
         let lines = CALLS.len() + 2;
+        let surplus: usize = TWICE.iter().map(|all| all.matches(" and ").count()).sum();
         for start in STARTS {
-            let expected = damages().len() * (start.len() + 1 + lines) + TWICE.len();
+            let expected = damages().len() * (start.len() + 1 + lines) + surplus;
             assert_eq!(script(start).commands(), expected);
         }
     }
@@ -240,7 +249,7 @@ mod tests {
             assert!(calls.count() >= 3, "{name}");
         }
         for bad in [
-            "event 1048576",
+            "event 2097152",
             "turn 4 1",
             "send 2",
             "refresh 2",

@@ -5,7 +5,7 @@ mod drawing;
 
 use std::collections::BTreeSet;
 
-use self::drawing::Display;
+use self::drawing::{Display, Flags};
 use super::random;
 use super::words::{self, Set, KINDS, REFERENCES, SIDES};
 use crate::compare;
@@ -65,9 +65,9 @@ struct Seen {
 }
 
 impl Seen {
-    fn add(&mut self, displays: &[Display; 2], overspeed: bool) {
+    fn add(&mut self, displays: &[Display; 2], flags: Flags) {
         for (side, display) in displays.iter().enumerate() {
-            for row in drawing::rows(side, display, overspeed) {
+            for row in drawing::rows(side, display, flags) {
                 // The lamps are asked for one by one.
                 let words = row.split(' ').map(String::from);
                 self.rows.extend(words.map(|word| (side, word)));
@@ -110,12 +110,11 @@ fn check_state(answers: &[&[u8]], seen: &mut Seen) -> Result<(), String> {
         return Err("the drawing of the watch is not that of the panel".to_string());
     }
     let displays = [Display::read(left), Display::read(right)];
-    let (&[Some(left), Some(right)], Some(overspeed)) = (&displays, drawing::overspeed(bench))
-    else {
+    let (&[Some(left), Some(right)], Some(flags)) = (&displays, Flags::read(bench)) else {
         return Err("display or bench is not answered where it has to be".to_string());
     };
-    drawing::check(panel, &[left, right], overspeed)?;
-    seen.add(&[left, right], overspeed);
+    drawing::check(panel, &[left, right], flags)?;
+    seen.add(&[left, right], flags);
     Ok(())
 }
 
@@ -158,7 +157,9 @@ fn needed(side: &str) -> Vec<String> {
     for fd in ["ON", "off"] {
         needed.extend(["ON", "off"].map(|ap| format!("flight director {fd} autopilot {ap}")));
     }
-    needed.extend(["OVERSPEED FLAG SET", "overspeed flag clear"].map(String::from));
+    for overspeed in ["OVERSPEED FLAG SET", "overspeed flag clear"] {
+        needed.extend(["", " INDEPENDENT"].map(|both| format!("{overspeed}{both}")));
+    }
     for lamp in ["hdg", "nav", "appr", "vs", "flc", "alt", "ap"] {
         needed.extend([lamp.to_string(), format!("[{}]", lamp.to_uppercase())]);
     }
@@ -185,6 +186,7 @@ fn states(seed: u64) -> Vec<State> {
     states.extend((0..SHARED).map(|number| [lines(&["power-on"]), shared(number)].concat()));
     states.extend(with_sets());
     states.extend(with_references());
+    states.extend(independent());
     states.extend(damaged());
     states.extend(WALK.map(|line| lines(&[line])));
     states.extend(by_chance(seed));
@@ -288,9 +290,33 @@ fn with(side: &str, set: Set, values: &[(&str, i32)]) -> State {
     state
 }
 
+/// Independent operation put on with each two sets of an approach and without one, under every
+/// shared state, and taken off again. Where a side has no approach it is refused.
+fn independent() -> Vec<State> {
+    let sets = [
+        Set::new(4, 0, 7, 0),
+        Set::new(4, 1, 7, 0),
+        Set::new(4, 0, 1, 1),
+    ];
+    let mut states = Vec::new();
+    for number in 0..SHARED {
+        for (left, right) in (0..9).map(|pair| (sets[pair / 3], sets[pair % 3])) {
+            let mut state = lines(&["power-on"]);
+            state.extend(shared(number));
+            state.push(format!("damage left set {left}"));
+            state.push(format!("damage right set {right}"));
+            state.push("damage independent 1".to_string());
+            states.push(state);
+            states.push(lines(&["damage independent 0"]));
+        }
+    }
+    states
+}
+
 /// Damage away from what the panels show, on a bench with much to show; and one that is mended.
 fn damaged() -> Vec<State> {
     let mut damages: Vec<String> = [2, 3, 128, 255].map(|pf| format!("pf {pf}")).to_vec();
+    damages.push("independent 1".to_string());
     for side in SIDES {
         damages.extend([
             format!("{side}-inbox ias 59"),
@@ -318,7 +344,7 @@ fn damaged() -> Vec<State> {
 }
 
 /// Every command that is watched, accepted and refused, on one bench after the other.
-const WALK: [&str; 58] = [
+const WALK: [&str; 81] = [
     "power-on",
     "press hdg",
     "knob heading 120",
@@ -354,8 +380,31 @@ const WALK: [&str; 58] = [
     "signal altsel-captured",
     "signal altsel-on-track",
     "knob altitude -1",
+    "press independent",
+    "press appr",
+    "signal lappr-captured",
+    "signal vappr-captured",
+    "press independent",
+    "send right",
+    "refresh left",
+    "press independent",
+    "knob heading 30",
+    "knob speed -9",
+    "press ap",
+    "refresh left",
+    "send left",
+    "press nav",
+    "press fd-left",
+    "press independent",
+    "press transfer",
+    "press go-around",
+    "damage left set 4 0 7 0",
+    "damage right set 4 1 7 0",
+    "event 1048576",
+    "press vs",
     "event 0",
     "event 1048576",
+    "event 2097152",
     "turn 4 1",
     "send 2",
     "refresh 9",
@@ -403,8 +452,10 @@ fn is_watched(line: &str) -> bool {
 
 #[cfg(test)]
 mod tests {
-    use super::drawing::tests::{displays, DISPLAYS, DRAWING};
+    use super::drawing::tests::{displays, CLEAR, DISPLAYS, DRAWING};
     use super::*;
+    use crate::parts::shown::tests::{answer, SOME};
+    use crate::parts::shown::Shown;
 
     /// What a console would say to the states if all of them were the same bench.
     fn output(states: &[State]) -> String {
@@ -418,7 +469,12 @@ mod tests {
 
     fn asked(watched: &str, panel: &str) -> String {
         let displays = DISPLAYS.concat();
-        format!("watch 0\nevent 0 32\n{watched}{panel}watch 0\n{displays}bench 0 1 0 9\n")
+        let bench = answer(&Shown {
+            pf: 0,
+            overspeed: false,
+            ..SOME
+        });
+        format!("watch 0\nevent 0 32\n{watched}{panel}watch 0\n{displays}{bench}")
     }
 
     fn problem(output: &str, states: &[State]) -> String {
@@ -481,7 +537,7 @@ mod tests {
     #[test]
     fn what_is_never_shown_is_told() {
         let mut seen = Seen::default();
-        seen.add(&displays(), false);
+        seen.add(&displays(), CLEAR);
         assert_eq!(
             all_seen(&seen),
             Err("1 sets were shown on left, not 108".to_string())
@@ -503,8 +559,9 @@ mod tests {
         let states = states(1);
         let with_sets = 241 * 4;
         let with_references = 2 * (7 * (8 * 2 + 6) + 16);
-        let damaged = 2 * (4 + 4 + 12) + 1;
-        let fixed = 1 + SHARED + with_sets + with_references + damaged + WALK.len();
+        let independent = SHARED * 9 * 2;
+        let damaged = 2 * (4 + 1 + 4 + 12) + 1;
+        let fixed = 1 + SHARED + with_sets + with_references + independent + damaged + WALK.len();
         let by_chance = states.len() - fixed;
         assert!(by_chance > LISTS as usize * LENGTH / 2, "{by_chance}");
         assert_eq!(states[0], ["power-on"]);
@@ -518,6 +575,18 @@ mod tests {
             "damage",
         ];
         assert_eq!(last, BTreeSet::from(watched));
+    }
+
+    #[test]
+    fn independent_operation_has_to_be_shown_with_both_overspeed_flags() {
+        for row in [
+            "overspeed flag clear INDEPENDENT",
+            "OVERSPEED FLAG SET INDEPENDENT",
+            "overspeed flag clear",
+            "OVERSPEED FLAG SET",
+        ] {
+            assert!(needed("left").contains(&row.to_string()), "{row}");
+        }
     }
 
     #[test]

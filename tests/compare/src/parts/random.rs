@@ -1,12 +1,15 @@
 //! Lists of calls by chance.
 
+mod approach;
 mod bus;
 mod values;
 
-use std::collections::BTreeSet;
+use std::collections::{BTreeMap, BTreeSet, VecDeque};
 
+use self::approach::Step;
 use self::bus::Bus;
-use super::words::{self, Set, BOXES, KINDS, KNOBS, REFERENCES, SIDES};
+use super::shown::Shown;
+use super::words::{self, Set, BOXES, EVENT_COUNT, KINDS, KNOBS, REFERENCES, SIDES};
 use crate::compare;
 use crate::gate::{Gate, Stop};
 use crate::rng::Rng;
@@ -21,16 +24,73 @@ const LENGTH: usize = 100_000;
 /// where 105 of the 107 can be reached.
 const FEWEST_SETS: usize = 100;
 
+/// How often independent operation has to begin, and how often each answer has to end it.
+const FEWEST_BEGINNINGS: usize = 500;
+const FEWEST_ENDINGS: usize = 5;
+
 pub fn run(gate: &mut Gate) -> Result<(), Stop> {
     let mut shown = BTreeSet::new();
+    let mut moves = Moves::default();
     for number in 0..LISTS {
         let output = gate.check(&list(gate.seed, number, LENGTH))?;
         collect_shown(&output, &mut shown);
+        moves.collect(&output);
     }
     if shown.len() < FEWEST_SETS {
         return Err(gate.reject(&format!("the displays show only {} On sets", shown.len())));
     }
-    Ok(())
+    moves.are_enough().map_err(|problem| gate.reject(&problem))
+}
+
+/// The answers that stand between two benches of which only one is in independent operation, and
+/// how often.
+#[derive(Default)]
+struct Moves {
+    beginnings: BTreeMap<Vec<u8>, usize>,
+    endings: BTreeMap<Vec<u8>, usize>,
+}
+
+impl Moves {
+    fn collect(&mut self, output: &[u8]) {
+        let independent = |answer| Shown::read(answer).map(|shown| shown.independent);
+        for answers in compare::blocks(output).windows(3) {
+            let moves = match (independent(answers[0]), independent(answers[2])) {
+                (Some(false), Some(true)) => &mut self.beginnings,
+                (Some(true), Some(false)) => &mut self.endings,
+                _ => continue,
+            };
+            *moves.entry(answers[1].to_vec()).or_default() += 1;
+        }
+    }
+
+    fn are_enough(&self) -> Result<(), String> {
+        let count = |moves: &BTreeMap<Vec<u8>, usize>, answer: &str| {
+            moves.get(answer.as_bytes()).copied().unwrap_or(0)
+        };
+        let begun = count(&self.beginnings, "event 0 20\n");
+        if begun < FEWEST_BEGINNINGS {
+            return Err(format!("independent operation began only {begun} times"));
+        }
+        let scarce = endings().into_iter().find(|answer| {
+            let ended = count(&self.endings, answer);
+            ended < FEWEST_ENDINGS
+        });
+        match scarce {
+            None => Ok(()),
+            Some(answer) => Err(format!(
+                "too few ends of independent operation are answered {answer}"
+            )),
+        }
+    }
+}
+
+/// The answers of all calls that can end independent operation.
+fn endings() -> Vec<String> {
+    let mut answers: Vec<String> = (0..words::INDEPENDENT)
+        .map(|event| format!("event 0 {event}\n"))
+        .collect();
+    answers.push("refresh 0\n".to_string());
+    answers
 }
 
 /// Lateral law, vertical law and armed sum of the accepted displays with modes on.
@@ -54,6 +114,7 @@ pub fn list(seed: u64, number: u64, length: usize) -> Script {
         bus: Bus::default(),
         calm: number.is_multiple_of(2),
         until_power_on: None,
+        planned: VecDeque::new(),
     };
     let mut script = Script::default();
     while script.commands() < length {
@@ -71,13 +132,16 @@ struct Maker {
     calm: bool,
     /// After a damage, how many calls come ahead of the next power-on.
     until_power_on: Option<usize>,
+    /// What is left of a sequence that was begun.
+    planned: VecDeque<Step>,
 }
 
 type Make = fn(&mut Maker) -> String;
 
 /// Commands of every list, by weight.
-const CALM: [(usize, Make); 13] = [
+const CALM: [(usize, Make); 14] = [
     (400, Maker::event),
+    (6, Maker::sequence),
     (140, Maker::turn),
     (130, Maker::reading),
     (60, |maker| maker.on_side("send")),
@@ -92,12 +156,15 @@ const CALM: [(usize, Make); 13] = [
     (20, |_| "bytes".to_string()),
 ];
 
+/// How many of a hundred lines go on with a sequence that was begun.
+const PLANNED: usize = 97;
+
 /// How many of a hundred events, knobs and sides are named where they can be.
 const NAMED: usize = 40;
 
 /// Events by weight: those that arm and capture more often than those that clear, because an
 /// approach needs several of them in a row.
-const EVENTS: [(usize, u32); 20] = [
+const EVENTS: [(usize, u32); 21] = [
     (2, 0),
     (3, 1),
     (2, 2),
@@ -118,6 +185,7 @@ const EVENTS: [(usize, u32); 20] = [
     (5, 17),
     (5, 18),
     (4, 19),
+    (3, 20),
 ];
 
 /// What only the other lists have.
@@ -139,7 +207,25 @@ impl Maker {
         if !self.calm && self.rng.below(50) == 0 {
             return self.rng.weighted(&ROUGH)(self);
         }
+        if !self.planned.is_empty() && self.rng.percent(PLANNED) {
+            return self.step();
+        }
         self.rng.weighted(&CALM)(self)
+    }
+
+    fn sequence(&mut self) -> String {
+        self.planned = approach::sequence(&mut self.rng).into();
+        self.step()
+    }
+
+    fn step(&mut self) -> String {
+        let step = self.planned.pop_front().expect("a step is left");
+        match step {
+            Step::Event(event) => self.event_line(words::word(event)),
+            Step::Send(side) => self.side_line("send", side as u32),
+            Step::Refresh(side) => self.side_line("refresh", side as u32),
+            Step::Bench => "bench".to_string(),
+        }
     }
 
     fn power_on(&mut self) -> String {
@@ -151,19 +237,24 @@ impl Maker {
     fn event(&mut self) -> String {
         let bit = words::word(self.rng.weighted(&EVENTS));
         let any = self.rng.next() as u32;
-        let low_bits = (1 << 20) - 1;
+        let low_bits = (1 << EVENT_COUNT) - 1;
         let word = match self.rng.below(100) {
             0..=87 => bit,
             // The bits above are to be lost.
             88..=91 => bit | (any & low_bits & !(bit - 1)),
             92..=93 => any & low_bits,
             94 => 0,
-            95..=96 => words::word(20 + self.rng.below(12) as u32) | any & low_bits,
+            95..=96 => words::word(21 + self.rng.below(11) as u32) | any & low_bits,
             97 => words::word(self.rng.below(32) as u32),
-            98 => self.rng.pick(&[1 << 20, 1 << 31, u32::MAX, (1 << 20) - 1]),
+            98 => self.rng.pick(&[1 << 21, 1 << 31, u32::MAX, low_bits]),
             _ => any,
         };
-        if word.is_power_of_two() && word >> 20 == 0 && self.rng.percent(NAMED) {
+        self.event_line(word)
+    }
+
+    /// The line of a word, which may be a name where it has one bit.
+    fn event_line(&mut self, word: u32) -> String {
+        if word.is_power_of_two() && word >> EVENT_COUNT == 0 && self.rng.percent(NAMED) {
             return words::by_name(word.trailing_zeros());
         }
         format!("event {word}")
@@ -208,6 +299,10 @@ impl Maker {
             0..=96 => self.rng.below(2) as u32,
             _ => self.rng.pick(&[2, 3, 256, 1 << 31, u32::MAX]),
         };
+        self.side_line(command, side)
+    }
+
+    fn side_line(&mut self, command: &str, side: u32) -> String {
         match SIDES.get(side as usize) {
             Some(name) if self.rng.percent(NAMED) => format!("{command} {name}"),
             _ => format!("{command} {side}"),
@@ -222,8 +317,9 @@ impl Maker {
     fn damage(&mut self) -> String {
         self.until_power_on.get_or_insert(1 + self.rng.below(8));
         let place = self.rng.pick(&BOXES);
-        match self.rng.below(8) {
+        match self.rng.below(9) {
             0 => format!("damage pf {}", self.rng.pick(&[0, 1, 1, 2, 255])),
+            8 => format!("damage independent {}", self.rng.below(2)),
             1 => self.reading().replacen("reading", "damage reading", 1),
             2..=4 => self.damaged_reference(place),
             _ => format!("damage {place} set {}", self.any_set()),
@@ -251,7 +347,7 @@ impl Maker {
 }
 
 /// Each is answered by an error.
-const ERRORS: [&str; 34] = [
+const ERRORS: [&str; 36] = [
     "event",
     "event x",
     "event 4294967296",
@@ -261,6 +357,7 @@ const ERRORS: [&str; 34] = [
     "press 14",
     "press nav-captured",
     "signal hdg",
+    "signal independent",
     "turn 0 256",
     "turn 0",
     "knob 4 1",
@@ -273,6 +370,7 @@ const ERRORS: [&str; 34] = [
     "Display 0",
     "power-on 1",
     "damage left set 6 0 1 0",
+    "damage independent 2",
     "damage left ias 2147483648",
     "area",
     "area 2049",
@@ -291,7 +389,7 @@ const ERRORS: [&str; 34] = [
 #[cfg(test)]
 mod tests {
     use super::*;
-    use std::collections::BTreeMap;
+    use crate::parts::shown::tests::{answer, SOME};
 
     fn text(script: &Script) -> &str {
         std::str::from_utf8(script.text()).unwrap()
@@ -363,9 +461,9 @@ mod tests {
     #[test]
     fn every_name_comes_and_the_watch_stays_off() {
         for number in 0..2 {
-            let script = list(1, number, 200_000);
+            let script = list(1, number, 300_000);
             let lines: BTreeSet<&str> = text(&script).lines().collect();
-            for event in 0..20 {
+            for event in 0..EVENT_COUNT {
                 let line = words::by_name(event);
                 assert!(lines.contains(line.as_str()), "{line}");
             }
@@ -406,6 +504,71 @@ mod tests {
             assert!(since <= Some(8));
         }
         assert!(damages > 200, "{damages}");
+    }
+
+    #[test]
+    fn independent_operation_is_damaged_and_so_is_all_else() {
+        let script = list(1, 1, 200_000);
+        let lines: BTreeSet<&str> = text(&script).lines().collect();
+        for line in [
+            "damage independent 0",
+            "damage independent 1",
+            "damage pf 1",
+            "damage left set 0 0 0 0",
+        ] {
+            assert!(lines.contains(line), "{line}");
+        }
+    }
+
+    /// A bench, an answer and another bench, again and again.
+    fn moved(answers: &[(bool, String, bool)]) -> Moves {
+        let bench = |independent| {
+            answer(&Shown {
+                independent,
+                ..SOME
+            })
+        };
+        let mut moves = Moves::default();
+        for (before, between, after) in answers {
+            let output = format!("{}{between}{}", bench(*before), bench(*after));
+            moves.collect(output.as_bytes());
+        }
+        moves
+    }
+
+    #[test]
+    fn a_move_is_an_answer_between_two_benches() {
+        let moves = moved(&[
+            (false, "event 0 20\n".to_string(), true),
+            (true, "event 0 5\n".to_string(), false),
+            (true, "event 0 5\n".to_string(), false),
+            (true, "event 0 1\n".to_string(), true),
+            (false, "event 0 2\n".to_string(), false),
+            (true, "send 0\nevent 0 3\n".to_string(), false),
+        ]);
+        let counted = |answer: &[u8], count| BTreeMap::from([(answer.to_vec(), count)]);
+        assert_eq!(moves.beginnings, counted(b"event 0 20\n", 1));
+        assert_eq!(moves.endings, counted(b"event 0 5\n", 2));
+    }
+
+    #[test]
+    fn too_few_moves_are_noticed() {
+        let begin = (false, "event 0 20\n".to_string(), true);
+        let ends: Vec<_> = endings()
+            .into_iter()
+            .map(|answer| (true, answer, false))
+            .collect();
+        assert_eq!(ends.len(), 21);
+        let mut all = vec![begin; FEWEST_BEGINNINGS];
+        for end in &ends {
+            all.extend(vec![end.clone(); FEWEST_ENDINGS]);
+        }
+        assert_eq!(moved(&all).are_enough(), Ok(()));
+        for index in [0, FEWEST_BEGINNINGS, all.len() - 1] {
+            let mut fewer = all.clone();
+            fewer.remove(index);
+            assert!(moved(&fewer).are_enough().is_err(), "{index}");
+        }
     }
 
     #[test]

@@ -8,7 +8,8 @@ mod states;
 use std::fmt;
 
 use self::states::State;
-use super::words::{self, Set, BOXES, REFERENCES, SIDES};
+use super::shown::Shown;
+use super::words::{self, Set, BOXES, EVENT_COUNT, REFERENCES, SIDES};
 use crate::compare;
 use crate::gate::{Gate, Stop};
 use crate::say;
@@ -16,11 +17,9 @@ use crate::script::Script;
 
 /// As document 01 counts them.
 const COHERENT: usize = 107;
-const EVENT_COUNT: u32 = 20;
 
 pub fn run(gate: &mut Gate) -> Result<(), Stop> {
-    let output = gate.check(&probe())?;
-    let (accepted, refused) = sort(&output).map_err(|problem| gate.reject(&problem))?;
+    let (accepted, refused) = asked(gate)?;
     let output = gate.check(&incoherent(&refused))?;
     all_refused(&output).map_err(|problem| gate.reject(&problem))?;
     for trial in Trial::all() {
@@ -32,6 +31,12 @@ pub fn run(gate: &mut Gate) -> Result<(), Stop> {
 }
 
 // ---- Which sets are coherent ----
+
+/// The accepted sets, Off first, and the refused ones, as both programs tell them apart.
+pub fn asked(gate: &mut Gate) -> Result<(Vec<Set>, Vec<Set>), Stop> {
+    let output = gate.check(&probe())?;
+    sort(&output).map_err(|problem| gate.reject(&problem))
+}
 
 fn candidates() -> Vec<Set> {
     let mut sets = vec![Set::OFF];
@@ -50,7 +55,7 @@ fn probe() -> Script {
     script
 }
 
-/// The accepted sets, Off first, and the refused ones, from the answers to the probe.
+/// The accepted and the refused sets, from the answers to the probe.
 fn sort(output: &[u8]) -> Result<(Vec<Set>, Vec<Set>), String> {
     let answers = compare::blocks(output);
     let verdicts = answers.into_iter().skip(2).step_by(3);
@@ -105,7 +110,7 @@ fn all_refused(output: &[u8]) -> Result<(), String> {
 
 /// What is tried on a bench that has been put in place.
 #[derive(Clone, Copy, PartialEq, Eq, Debug)]
-enum Trial {
+pub enum Trial {
     Event(u32),
     Send(usize),
     Refresh(usize),
@@ -140,6 +145,22 @@ struct Case {
     state: State,
     sets: [Set; 2],
     shown_at: usize,
+}
+
+impl Case {
+    /// What `bench` has to show ahead of the trial.
+    fn shown(&self) -> Shown {
+        let State { fd, inbox, .. } = self.state;
+        Shown {
+            pf: self.state.pf as u8,
+            ap: self.state.ap,
+            overspeed: self.state.flag,
+            independent: false,
+            fd,
+            sets: self.sets,
+            inbox,
+        }
+    }
 }
 
 /// One trial in all its states with all accepted sets.
@@ -226,36 +247,20 @@ fn say_trial(script: &mut Script, trial: Trial) {
 fn in_place(output: &[u8], cases: &[Case]) -> Result<(), String> {
     let answers = compare::blocks(output);
     for case in cases {
-        let shown = String::from_utf8_lossy(answers[case.shown_at]);
-        if !is_shown(&shown, case) {
+        let answer = answers[case.shown_at];
+        if Shown::read(answer) != Some(case.shown()) {
             let (state, sets) = (case.state, case.sets);
+            let shown = String::from_utf8_lossy(answer);
             return Err(format!("{state:?} with {sets:?} was not reached: {shown}"));
         }
     }
     Ok(())
 }
 
-fn is_shown(bench: &str, case: &Case) -> bool {
-    let words: Vec<&str> = bench.split_whitespace().collect();
-    // PF, AP, flag, four counts and six readings come ahead of four boxes of twelve words.
-    if words.len() != 14 + 4 * 12 {
-        return false;
-    }
-    let flag = |index: usize| words[index] == "1";
-    let state = &case.state;
-    let shared = words[1] == state.pf.to_string() && flag(2) == state.ap && flag(3) == state.flag;
-    shared
-        && (0..2).all(|side| {
-            let (own, inbox) = (14 + 12 * side, 38 + 12 * side);
-            flag(own) == state.fd[side]
-                && flag(inbox) == state.inbox[side]
-                && words[own + 1..own + 5].join(" ") == case.sets[side].to_string()
-        })
-}
-
 #[cfg(test)]
 mod tests {
     use super::*;
+    use crate::parts::shown::tests::{answer, SOME};
     use std::collections::BTreeSet;
 
     /// Any sets do to count scripts.
@@ -305,7 +310,7 @@ mod tests {
     #[test]
     fn incoherent_sets_have_to_be_refused_at_every_event() {
         let script = incoherent(&some_sets(133));
-        assert_eq!(script.commands(), 133 * 20 * 5);
+        assert_eq!(script.commands(), 133 * 21 * 5);
         let answers = "power-on 0\ndamage 0\nevent 1 32\ndisplay 1 0\nbench\n".repeat(9);
         assert!(all_refused(answers.as_bytes()).is_ok());
         let bad = answers.replacen("event 1 32", "event 0 3", 1);
@@ -313,12 +318,13 @@ mod tests {
     }
 
     #[test]
-    fn trials_are_20_events_and_the_sends_and_refreshes_of_both_sides() {
+    fn trials_are_21_events_and_the_sends_and_refreshes_of_both_sides() {
         let all: BTreeSet<String> = Trial::all().iter().map(Trial::to_string).collect();
-        assert_eq!(all.len(), 24);
+        assert_eq!(all.len(), 25);
         for trial in [
             "event 1",
             "event 524288",
+            "event 1048576",
             "send 0",
             "send 1",
             "refresh 0",
@@ -380,17 +386,6 @@ mod tests {
         }
     }
 
-    fn shown(pf: u8, ap: u8, flag: u8, fds: [u8; 4], sets: [&str; 2]) -> String {
-        let [left, right, left_inbox, right_inbox] = fds;
-        let references = "0 0 0 0 90 0 0";
-        format!(
-            "bench {pf} {ap} {flag} 0 0 0 0 a b c d e f {left} {} {references} \
-             {right} {} {references} {left_inbox} 0 0 0 0 {references} \
-             {right_inbox} 0 0 0 0 {references}\n",
-            sets[0], sets[1]
-        )
-    }
-
     #[test]
     fn a_bench_that_is_not_in_place_is_noticed() {
         let case = Case {
@@ -402,26 +397,26 @@ mod tests {
                 inbox: [false, true],
                 acting: 1,
             },
-            sets: [Set::new(2, 0, 1, 0), Set::new(4, 0, 7, 0)],
+            sets: SOME.sets,
             shown_at: 0,
         };
-        let names = ["2 0 1 0", "4 0 7 0"];
-        assert!(is_shown(&shown(1, 0, 1, [1, 0, 0, 1], names), &case));
-        let wrong = [
-            shown(0, 0, 1, [1, 0, 0, 1], names),
-            shown(1, 1, 1, [1, 0, 0, 1], names),
-            shown(1, 0, 0, [1, 0, 0, 1], names),
-            shown(1, 0, 1, [0, 0, 0, 1], names),
-            shown(1, 0, 1, [1, 1, 0, 1], names),
-            shown(1, 0, 1, [1, 0, 1, 1], names),
-            shown(1, 0, 1, [1, 0, 0, 0], names),
-            shown(1, 0, 1, [1, 0, 0, 1], ["2 0 1 1", "4 0 7 0"]),
-            shown(1, 0, 1, [1, 0, 0, 1], ["2 0 1 0", "4 0 8 0"]),
-            "bench 1 0 1\n".to_string(),
+        let check = |answer: &str| in_place(answer.as_bytes(), std::slice::from_ref(&case));
+        assert_eq!(check(&answer(&SOME)), Ok(()));
+        let changes: [fn(&mut Shown); 8] = [
+            |shown| shown.pf = 0,
+            |shown| shown.ap = true,
+            |shown| shown.overspeed = false,
+            |shown| shown.independent = true,
+            |shown| shown.fd = [false, false],
+            |shown| shown.inbox = [true, true],
+            |shown| shown.sets[0] = shown.sets[1],
+            |shown| shown.sets[1] = shown.sets[0],
         ];
-        for bench in wrong {
-            assert!(!is_shown(&bench, &case), "{bench}");
-            assert!(in_place(bench.as_bytes(), std::slice::from_ref(&case)).is_err());
+        for change in changes {
+            let mut shown = SOME;
+            change(&mut shown);
+            assert!(check(&answer(&shown)).is_err(), "{shown:?}");
         }
+        assert!(check("bench 1 0 1 0\n").is_err());
     }
 }

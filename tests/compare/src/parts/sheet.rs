@@ -1,6 +1,6 @@
-//! The bench sheet of document 01 as request 2026-01 left it: each case as a script from power-on,
-//! with the answers that the paper gives. A display also has what the paper says of power-on,
-//! references and lamps.
+//! The bench sheet of document 01 as the requests up to 2026-03 left it: each case as a script from
+//! power-on, with the answers that the paper gives. A display also has what the paper says of
+//! power-on, references and lamps.
 
 use crate::gate::{Gate, Stop};
 use crate::script::Script;
@@ -66,7 +66,7 @@ const CASE_2: Case = &[
     ("reading heading -0.75", "reading 6"),
     (
         "bench",
-        "bench 0 0 0 0 0 0 0 0x0000000000000000 0x4056800000000000 0x0000000000000000 \
+        "bench 0 0 0 0 0 0 0 0 0x0000000000000000 0x4056800000000000 0x0000000000000000 \
          0x0000000000000000 0x0000000000000000 0x4076780000000000 \
          0 0 0 0 0 0 0 0 0 90 0 0 0 0 0 0 0 0 0 0 0 90 0 0 \
          0 0 0 0 0 0 0 0 0 90 0 0 0 0 0 0 0 0 0 0 0 90 0 0",
@@ -155,7 +155,7 @@ const CASE_9: Case = &[
 
 const CASE_10: Case = &[
     ("event 0", "event 0 32"),
-    ("event 1048576", "event 4 32"),
+    ("event 2097152", "event 4 32"),
     ("display 0", "display 0 0 0 0 0 0 0 0 0 90 0 0 128"),
 ];
 
@@ -202,7 +202,7 @@ mod tests {
         for (command, answer) in CASES.into_iter().flatten() {
             let expected = match command.split(' ').next() {
                 Some("display") => 14,
-                Some("bench") => 1 + 3 + 4 + 6 + 4 * 12,
+                Some("bench") => 1 + 4 + 4 + 6 + 4 * 12,
                 Some("event") => 3,
                 Some("pick") => 4,
                 _ => 2,
@@ -215,7 +215,7 @@ mod tests {
     fn the_sheet_has_the_words_of_the_paper() {
         let given: Vec<&str> = CASES.into_iter().flatten().map(|entry| entry.0).collect();
         let words = [
-            0, 4, 32, 1_024, 2_048, 16_384, 16_400, 65_536, 131_072, 1_048_576,
+            0, 4, 32, 1_024, 2_048, 16_384, 16_400, 65_536, 131_072, 2_097_152,
         ];
         for word in words {
             assert!(given.contains(&format!("event {word}").as_str()), "{word}");

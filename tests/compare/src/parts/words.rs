@@ -51,7 +51,7 @@ pub const REFERENCES: [Ranged; 7] = [
 ];
 
 /// The switches, each with its event.
-pub const SWITCHES: [(&str, u32); 12] = [
+pub const SWITCHES: [(&str, u32); 13] = [
     ("ap-disconnect", 0),
     ("ap", 1),
     ("go-around", 4),
@@ -64,6 +64,7 @@ pub const SWITCHES: [(&str, u32); 12] = [
     ("vs", 17),
     ("flc", 18),
     ("alt", 19),
+    ("independent", 20),
 ];
 
 /// The signals, each with its event.
@@ -78,7 +79,14 @@ pub const SIGNALS: [(&str, u32); 8] = [
     ("altsel-on-track", 13),
 ];
 
-/// The line that names an event from 0 to 19.
+/// The events go from 0 to one below; a bit from here on is refused.
+pub const EVENT_COUNT: u32 = 21;
+
+/// The events that parts ask for by number.
+pub const TRANSFER: u32 = 5;
+pub const INDEPENDENT: u32 = 20;
+
+/// The line that names an event.
 pub fn by_name(event: u32) -> String {
     let find = |table: &[(&'static str, u32)]| table.iter().find(|row| row.1 == event).copied();
     match (find(&SWITCHES), find(&SIGNALS)) {
@@ -177,9 +185,10 @@ mod tests {
 
     #[test]
     fn every_event_has_one_name() {
-        let names: BTreeSet<String> = (0..20).map(by_name).collect();
-        assert_eq!(names.len(), 20);
-        assert_eq!(SWITCHES.len() + SIGNALS.len(), 20);
+        let names: BTreeSet<String> = (0..EVENT_COUNT).map(by_name).collect();
+        assert_eq!(names.len(), 21);
+        assert_eq!(SWITCHES.len() + SIGNALS.len(), 21);
+        assert_eq!(by_name(INDEPENDENT), "press independent");
         assert_eq!(by_name(0), "press ap-disconnect");
         assert_eq!(by_name(13), "signal altsel-on-track");
     }

@@ -3,6 +3,7 @@
 use super::{after, RANGES};
 use crate::bench::{Bench, Channel, Kind, Reference, Refusal};
 use crate::calls;
+use crate::codes;
 use crate::float;
 use crate::frames;
 use crate::sets::ModeSet;
@@ -46,6 +47,33 @@ fn refusal_1_pilot_flying() {
         bench.pf = pf;
         assert_unsound(bench);
     }
+}
+
+#[test]
+fn refusal_1_independent_operation() {
+    let engaged = ModeSet::from_numbers(4, 0, 7, false);
+    let also_armed = ModeSet::from_numbers(4, 1, 7, false);
+    let both = [engaged, also_armed];
+    for (left, right) in coherent_pairs() {
+        let mut bench = Bench::power_on();
+        bench.sides[0].modes = left;
+        bench.sides[1].modes = right;
+        assert!(bench.is_sound());
+        bench.independent = true;
+        if both.contains(&left) && both.contains(&right) {
+            assert!(bench.is_sound(), "{left:?} {right:?}");
+        } else {
+            assert_unsound(bench);
+        }
+    }
+}
+
+/// The coherent sets of two sides, Off among them.
+fn coherent_pairs() -> Vec<(ModeSet, ModeSet)> {
+    let sets = || (0..=107).filter_map(codes::set_of);
+    sets()
+        .flat_map(|left| sets().map(move |right| (left, right)))
+        .collect()
 }
 
 /// A bench with an unsound left or right side, or an unsound inbox of it.
@@ -130,14 +158,14 @@ fn refusal_3_knob() {
 #[test]
 fn refusal_4_word() {
     let mut bench = Bench::power_on();
-    for bit in 20..32 {
-        for low in [0, 1, 1 << 14] {
+    for bit in 21..32 {
+        for low in [0, 1, 1 << 14, 1 << 20] {
             let word = 1 << bit | low;
             assert_eq!(calls::event(&mut bench, word), Err(Refusal::Word));
         }
     }
     assert_eq!(bench, Bench::power_on());
-    for bit in 0..20 {
+    for bit in 0..21 {
         let mut bench = Bench::power_on();
         assert_eq!(calls::event(&mut bench, 1 << bit), Ok(bit));
     }

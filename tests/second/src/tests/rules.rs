@@ -1,29 +1,10 @@
 //! Rules that the bench sheet does not reach.
 
+use super::words::*;
 use super::{after, events, modes, read, shown};
 use crate::bench::{Bench, Kind, Reference};
 use crate::calls;
 use crate::sets::ModeSet;
-
-const AP_SWITCH: u32 = 1 << 1;
-const OVERSPEED: u32 = 1 << 2;
-const OVERSPEED_ENDS: u32 = 1 << 3;
-const GO_AROUND: u32 = 1 << 4;
-const TRANSFER: u32 = 1 << 5;
-const FD_LEFT: u32 = 1 << 6;
-const FD_RIGHT: u32 = 1 << 7;
-const SOURCE_CHANGED: u32 = 1 << 8;
-const NAV_CAPTURED: u32 = 1 << 9;
-const LAPPR_CAPTURED: u32 = 1 << 10;
-const VAPPR_CAPTURED: u32 = 1 << 11;
-const ALTSEL_CAPTURED: u32 = 1 << 12;
-const ALTSEL_TRACK: u32 = 1 << 13;
-const HDG: u32 = 1 << 14;
-const NAV: u32 = 1 << 15;
-const APPR: u32 = 1 << 16;
-const VS: u32 = 1 << 17;
-const FLC: u32 = 1 << 18;
-const ALT: u32 = 1 << 19;
 
 /// Modes of the left side after the words, from power-on.
 fn modes_after(words: &[u32]) -> (u32, u32, u32) {
@@ -287,7 +268,7 @@ fn every_event_keeps_every_coherent_set_coherent() {
         if !set.is_coherent() {
             continue;
         }
-        for event in 0..20 {
+        for event in 0..21 {
             for shared in 0..8 {
                 let mut bench = Bench::power_on();
                 bench.sides[0].modes = set;

@@ -13,7 +13,7 @@ fn answers(script: &[u8]) -> String {
 fn one_answer_line_for_each_command() {
     let script = b"# a comment\n\nevent 16384\nturn 3 9 # heading\nreading roll -12.5\n\
         reading roll inf\nreading heading 361\nreading heading 360\nsend 0\nrefresh 1\ndisplay 1\n\
-        display 2\npick 0\npick 7\nevent 1048576\nevent 0\nturn 4 1\npanel\npower-on\npick 0\n";
+        display 2\npick 0\npick 7\nevent 2097152\nevent 0\nturn 4 1\npanel\npower-on\npick 0\n";
     let expected = "event 0 14\nturn 0\nreading 0\nreading 5\nreading 6\nreading 0\nsend 0\n\
         refresh 0\ndisplay 0 0 2 1 4 9 0 0 0 90 0 0 129\ndisplay 2 0 0 0 0 0 0 0 0 0 0 0 0\n\
         pick 0 2 1\npick 2 0 0\nevent 4 32\nevent 0 32\nturn 3\npanel\nend\npower-on 0\n\
@@ -26,7 +26,7 @@ fn the_bench_at_power_on() {
     let zero = "0x0000000000000000";
     let channel = "0 0 0 0 0 0 0 0 0 90 0 0";
     let expected = format!(
-        "bench 0 0 0 0 0 0 0 {zero} 0x4056800000000000 {zero} {zero} {zero} {zero} \
+        "bench 0 0 0 0 0 0 0 0 {zero} 0x4056800000000000 {zero} {zero} {zero} {zero} \
          {channel} {channel} {channel} {channel}\n"
     );
     assert_eq!(answers(b"bench\n"), expected);
@@ -40,13 +40,61 @@ fn a_damaged_bench_is_written_as_it_is_and_refused() {
         event 1\nreading roll nan\ndisplay 2\n";
     let zero = "0x0000000000000000";
     let expected = format!(
-        "{}bench 200 0 0 0 0 0 0 {zero} 0x4056800000000000 {zero} 0xfff0000000000000 nan {zero} \
+        "{}bench 200 0 0 0 0 0 0 0 {zero} 0x4056800000000000 {zero} 0xfff0000000000000 nan {zero} \
          0 3 1 7 1 0 0 0 0 90 0 0 0 0 0 0 0 0 0 0 0 -5 0 0 \
          0 4 2 6 0 0 0 0 0 90 0 0 0 0 0 0 0 0 0 0 0 90 0 2147483647\n\
          event 1 32\nreading 1\ndisplay 1 0 0 0 0 0 0 0 0 0 0 0 0\n",
         "damage 0\n".repeat(7)
     );
     assert_eq!(answers(script), expected);
+}
+
+/// The four numbers of `bench` ahead of the counts: pilot flying and flags.
+fn shared_after(script: &str) -> String {
+    let output = answers(format!("{script}\nbench\n").as_bytes());
+    let last = output.lines().last().unwrap();
+    last.split(' ')
+        .skip(1)
+        .take(4)
+        .collect::<Vec<_>>()
+        .join(" ")
+}
+
+#[test]
+fn independent_operation_stands_after_the_overspeed_flag() {
+    let approach = "press appr\nsignal lappr-captured\nsignal vappr-captured\nsend left\n\
+        refresh right";
+    assert_eq!(shared_after(approach), "0 0 0 0");
+    let on = format!("{approach}\npress independent");
+    assert_eq!(shared_after(&on), "0 0 0 1");
+    assert_eq!(shared_after(&format!("{on}\npress ap")), "0 1 0 1");
+    assert_eq!(
+        shared_after(&format!("{on}\nsignal overspeed-begins")),
+        "0 0 1 0"
+    );
+    assert_eq!(shared_after(&format!("{on}\npress transfer")), "1 0 0 0");
+    assert_eq!(shared_after(&format!("{on}\npower-on")), "0 0 0 0");
+    let named = answers(format!("{on}\nbench\n").as_bytes());
+    let numbered = answers(format!("{approach}\nevent 1048576\nbench\n").as_bytes());
+    assert_eq!(named, numbered);
+}
+
+#[test]
+fn independent_operation_is_damaged_on_and_off() {
+    assert_eq!(shared_after("damage independent 1"), "0 0 0 1");
+    let script = "damage independent 1\nevent 0\ndamage independent 0\nevent 0\n\
+        damage left set 4 0 7 0\ndamage right set 4 1 7 0\ndamage independent 1\nevent 0\n";
+    let expected = format!(
+        "damage 0\nevent 1 32\ndamage 0\nevent 0 32\n{}event 0 32\n",
+        "damage 0\n".repeat(3)
+    );
+    assert_eq!(answers(script.as_bytes()), expected);
+    let wrong = "damage independent 1\ndamage independent 2";
+    assert_eq!(shared_after(wrong), "0 0 0 1");
+    assert!(is_error(
+        answers(wrong.as_bytes()).lines().last().unwrap(),
+        2
+    ));
 }
 
 /// Whether an answer line is the error of that line number.
@@ -105,7 +153,7 @@ fn words_for_people_are_answered_as_what_they_stand_for() {
 fn counts_after(script: &str) -> Vec<u8> {
     let output = answers(format!("{script}\nbench\n").as_bytes());
     let last = output.lines().last().unwrap();
-    let counts = last.split(' ').skip(4).take(4);
+    let counts = last.split(' ').skip(5).take(4);
     counts.map(|count| count.parse().unwrap()).collect()
 }
 
@@ -157,7 +205,9 @@ fn a_drawing_follows_what_is_watched() {
     let drawing = "panel\nend\n";
     for (line, answer) in [
         ("event 0", "event 0 32"),
-        ("event 1048576", "event 4 32"),
+        ("event 1048576", "event 0 20"),
+        ("event 2097152", "event 4 32"),
+        ("press independent", "event 0 20"),
         ("press hdg", "event 0 14"),
         ("signal nav-captured", "event 0 9"),
         ("turn 0 1", "turn 0"),
@@ -174,6 +224,7 @@ fn a_drawing_follows_what_is_watched() {
         ("power-on", "power-on 0"),
         ("damage pf 1", "damage 0"),
         ("damage pf 2", "damage 0"),
+        ("damage independent 1", "damage 0"),
     ] {
         let script = format!("watch on\n{line}\nwatch off\n{line}\n");
         let expected = format!("watch 0\n{answer}\n{drawing}watch 0\n{answer}\n");
@@ -226,6 +277,7 @@ fn help_is_a_block() {
     assert_eq!(lines[lines.len() - 2..], ["end", "send 0"]);
     for form in [
         "event WORD",
+        "damage independent N",
         "area LENGTH",
         "poke START HEX",
         "write SIDE START",

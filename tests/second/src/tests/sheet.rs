@@ -98,7 +98,7 @@ fn case_9_overspeed_holds_off_vertical_approach() {
 fn case_10_words_without_an_event() {
     let mut bench = Bench::power_on();
     assert_eq!(calls::event(&mut bench, 0), Ok(32));
-    assert_eq!(calls::event(&mut bench, 1_048_576), Err(Refusal::Word));
+    assert_eq!(calls::event(&mut bench, 2_097_152), Err(Refusal::Word));
     assert_eq!(bench, Bench::power_on());
 }
 

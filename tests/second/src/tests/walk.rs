@@ -1,5 +1,6 @@
 //! Long lists of calls from power-on with arguments drawn at random.
 
+use super::words::*;
 use crate::bench::{Bench, Kind, Refusal};
 use crate::calls;
 
@@ -30,13 +31,37 @@ struct Promises {
     passive: [Option<Shown>; 2],
 }
 
-fn event(bench: &mut Bench, promises: &mut Promises, draw: &mut Draw) -> Option<Refusal> {
-    let word = (1 << draw.below(21)) | (1 << draw.below(21));
+fn event(bench: &mut Bench, promises: &mut Promises, word: u32) -> Option<Refusal> {
     let result = calls::event(bench, word);
-    if result == Ok(5) {
+    // Neither side is passive while both are flown.
+    if result == Ok(5) || bench.independent {
         promises.passive = [None; 2];
     }
     result.err()
+}
+
+/// Brings the approach to both sides, whoever has the pilot flying, and asks for
+/// independent operation.
+fn approach(bench: &mut Bench, promises: &mut Promises) -> Option<Refusal> {
+    let words = [
+        OVERSPEED_ENDS,
+        SOURCE_CHANGED,
+        APPR,
+        LAPPR_CAPTURED,
+        VAPPR_CAPTURED,
+    ];
+    for word in words {
+        assert_eq!(event(bench, promises, word), None);
+    }
+    for side in 0..2 {
+        assert_eq!(send(bench, promises, side), None);
+    }
+    for side in 0..2 {
+        assert_eq!(refresh(bench, promises, side), None);
+    }
+    let refusal = event(bench, promises, INDEPENDENT);
+    assert!(bench.independent);
+    refusal
 }
 
 fn reading(bench: &mut Bench, draw: &mut Draw) -> Option<Refusal> {
@@ -54,9 +79,10 @@ fn send(bench: &mut Bench, promises: &mut Promises, side: u32) -> Option<Refusal
 }
 
 fn refresh(bench: &mut Bench, promises: &mut Promises, side: u32) -> Option<Refusal> {
+    // A refresh that finds it on promises nothing, even if it ends it.
+    let passive = u32::from(bench.pf) != side && !bench.independent;
     let refusal = calls::refresh(bench, side).err();
     if refusal.is_none() {
-        let passive = u32::from(bench.pf) != side;
         let sent = promises.sent[1 - side as usize];
         promises.passive[side as usize] = passive.then_some(sent);
     }
@@ -64,15 +90,19 @@ fn refresh(bench: &mut Bench, promises: &mut Promises, side: u32) -> Option<Refu
 }
 
 fn call(bench: &mut Bench, promises: &mut Promises, draw: &mut Draw) -> Option<Refusal> {
-    match draw.below(8) {
-        0..=3 => event(bench, promises, draw),
-        4 => {
+    match draw.below(200) {
+        0..=99 => {
+            let word = (1 << draw.below(22)) | (1 << draw.below(22));
+            event(bench, promises, word)
+        }
+        100..=124 => {
             let (knob, count) = (draw.below(5), draw.below(256));
             calls::turn(bench, knob, count as u8).err()
         }
-        5 => reading(bench, draw),
-        6 => send(bench, promises, draw.below(3)),
-        _ => refresh(bench, promises, draw.below(3)),
+        125..=149 => reading(bench, draw),
+        150..=172 => send(bench, promises, draw.below(3)),
+        173..=195 => refresh(bench, promises, draw.below(3)),
+        _ => approach(bench, promises),
     }
 }
 
@@ -97,6 +127,7 @@ fn check(bench: &Bench, promises: &Promises) {
 
 #[test]
 fn lists_of_calls_keep_the_third_demand() {
+    let (mut independent, mut ended) = (0, 0);
     for start in 0..200 {
         let mut draw = Draw(start);
         let mut bench = Bench::power_on();
@@ -110,6 +141,9 @@ fn lists_of_calls_keep_the_third_demand() {
             assert_ne!(refusal, Some(Refusal::Unsound));
             assert!(refusal.is_none() || bench == before);
             check(&bench, &promises);
+            independent += u32::from(bench.independent);
+            ended += u32::from(before.independent && !bench.independent);
         }
     }
+    assert!(independent > 5_000 && ended > 1_000);
 }

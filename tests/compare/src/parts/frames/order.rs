@@ -8,7 +8,7 @@ use crate::script::Script;
 const AREA: usize = 40;
 
 /// Damages after which the bench is unsound, each at another place; the first is none.
-const DAMAGES: [&str; 13] = [
+const DAMAGES: [&str; 14] = [
     "damage pf 0",
     "damage pf 2",
     "damage pf 255",
@@ -22,6 +22,7 @@ const DAMAGES: [&str; 13] = [
     "damage right-inbox roll -28",
     "damage reading altitude nan",
     "damage reading heading 361",
+    "damage independent 1",
 ];
 
 const SIDES: [u32; 8] = [0, 1, 2, 3, 255, 256, 1 << 31, u32::MAX];

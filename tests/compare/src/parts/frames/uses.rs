@@ -49,7 +49,7 @@ pub fn overlapping() -> Script {
 }
 
 /// Commands after each of which both sides are written twice.
-const WALK: [&str; 46] = [
+const WALK: [&str; 47] = [
     "press fd-right",
     "press fd-left",
     "press hdg",
@@ -91,6 +91,7 @@ const WALK: [&str; 46] = [
     "signal altsel-captured",
     "signal altsel-on-track",
     "event 1048576",
+    "event 2097152",
     "send 2",
     "reading roll nan",
     "press ap-disconnect",
@@ -219,11 +220,12 @@ fn any_references(script: &mut Script, side: &str, rng: &mut Rng) {
 // ---- The area itself ----
 
 /// What leaves the area as it is: every other command, and errors.
-const OTHERS: [&str; 36] = [
+const OTHERS: [&str; 39] = [
     "power-on",
     "event 16384",
     "event 0",
     "event 1048576",
+    "event 2097152",
     "press appr",
     "signal nav-captured",
     "turn 3 9",
@@ -244,6 +246,8 @@ const OTHERS: [&str; 36] = [
     "watch off",
     "damage left set 3 0 4 0",
     "damage right ias 300",
+    "damage independent 1",
+    "write 0 0",
     "damage pf 2",
     "write 0 0",
     "write 2 41",

@@ -1,8 +1,9 @@
 //! Lines that are commands, and lines that look like commands.
 
 /// One of each form, as they should be.
-pub const VALID: [&str; 54] = [
+pub const VALID: [&str; 57] = [
     "event 16384",
+    "event 1048576",
     "event 0",
     "event 4294967295",
     "turn 0 9",
@@ -27,6 +28,7 @@ pub const VALID: [&str; 54] = [
     "bench",
     "panel",
     "damage pf 1",
+    "damage independent 0",
     "damage left set 2 0 1 0",
     "damage right-inbox set 0 0 0 0",
     "damage left-inbox held -8000",
@@ -34,6 +36,7 @@ pub const VALID: [&str; 54] = [
     "damage reading vertical-speed 300.5",
     "press hdg",
     "press ap-disconnect",
+    "press independent",
     "signal nav-captured",
     "signal overspeed-begins",
     "turn heading 9",
@@ -126,7 +129,7 @@ fn capitalized(line: &str) -> String {
     first.to_uppercase() + rest
 }
 
-const ODD: [&str; 74] = [
+const ODD: [&str; 82] = [
     "",
     "   ",
     "#",
@@ -185,6 +188,14 @@ const ODD: [&str; 74] = [
     "damage left airspeed 100",
     "damage left fd 1",
     "damage ap 1",
+    "damage overspeed 1",
+    "damage independent",
+    "damage independent 2",
+    "damage independent on",
+    "damage independent heading 1",
+    "damage independent set 1 0 1 0",
+    "damage left independent 1",
+    "independent 1",
     "damage middle heading 1",
     "damage inbox heading 1",
     "damage left_inbox heading 1",

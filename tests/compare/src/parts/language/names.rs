@@ -6,7 +6,7 @@ use std::collections::BTreeSet;
 use crate::parts::words::{BOXES, KINDS, KNOBS, REFERENCES, SIDES, SIGNALS, SWITCHES};
 
 /// The places; each takes a word where the braces stand.
-const PLACES: [&str; 35] = [
+const PLACES: [&str; 37] = [
     "{}",
     "event {}",
     "press {}",
@@ -28,6 +28,8 @@ const PLACES: [&str; 35] = [
     "help {}",
     "damage {}",
     "damage pf {}",
+    "damage independent {}",
+    "damage {} 0",
     "damage {} 1",
     "damage {} heading 7",
     "damage {} set 2 0 1 0",
@@ -92,6 +94,8 @@ fn homes() -> Vec<(&'static str, Vec<&'static str>)> {
         ("knob {} 7", KNOBS.to_vec()),
         ("watch {}", vec!["on", "off"]),
         ("{}", vec!["help"]),
+        ("damage {} 0", vec!["independent"]),
+        ("damage {} 1", vec!["independent"]),
         ("{} hdg", vec!["press"]),
         ("{} nav-captured", vec!["signal"]),
         ("{} wheel 7", vec!["knob"]),
@@ -187,6 +191,21 @@ mod tests {
     }
 
     #[test]
+    fn independent_operation_is_named_where_it_may_be_and_where_not() {
+        let all = everywhere();
+        for line in [
+            "press independent",
+            "signal independent",
+            "damage independent",
+            "damage independent 0",
+            "damage independent 1",
+            "damage independent on",
+        ] {
+            assert!(all.contains(&line.to_string()), "{line}");
+        }
+    }
+
+    #[test]
     fn no_near_miss_is_the_word_itself() {
         for (_, words) in homes() {
             for word in words {
@@ -207,6 +226,10 @@ mod tests {
             "press ap_disconnect",
             "press ap disconnect",
             "press go\taround",
+            "press Independent",
+            "press independents",
+            "damage independen 1",
+            "damage INDEPENDENT 0",
             "signal navcaptured",
             "send lef",
             "pick Right",

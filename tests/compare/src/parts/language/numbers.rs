@@ -1,7 +1,7 @@
 //! Numbers of every form, good and bad, at every place that takes one.
 
 /// The places; each takes a number where the braces stand.
-const PLACES: [&str; 33] = [
+const PLACES: [&str; 34] = [
     "event {}",
     "turn {} 7",
     "turn 1 {}",
@@ -10,6 +10,7 @@ const PLACES: [&str; 33] = [
     "display {}",
     "pick {}",
     "damage pf {}",
+    "damage independent {}",
     "damage left set {} 0 1 0",
     "damage left set 4 {} 1 0",
     "damage left set 4 0 {} 0",
@@ -40,7 +41,7 @@ const PLACES: [&str; 33] = [
 
 /// Whole numbers about the ends of 8, 16, 32, 63 and 64 bits, and ones that would be small if
 /// they were cut to fewer bits.
-const WHOLE: [&str; 67] = [
+const WHOLE: [&str; 69] = [
     "0",
     "1",
     "2",
@@ -72,7 +73,9 @@ const WHOLE: [&str; 67] = [
     "65535",
     "65536",
     "65537",
+    "1048575",
     "1048576",
+    "2097152",
     "2147483646",
     "2147483647",
     "2147483648",
@@ -225,8 +228,8 @@ mod tests {
 
     #[test]
     fn every_form_stands_at_every_place() {
-        let numbers = 67 + 72 + 16 + 4;
-        assert_eq!(lines().len(), 33 * numbers);
+        let numbers = 69 + 72 + 16 + 4;
+        assert_eq!(lines().len(), 34 * numbers);
     }
 
     #[test]
@@ -267,6 +270,15 @@ mod tests {
             "knob 1 1.0",
         ] {
             assert!(all.contains(&line.to_string()), "{line}");
+        }
+    }
+
+    #[test]
+    fn the_limits_of_a_flag_are_tried() {
+        let all = lines();
+        for number in ["0", "1", "01", "2", "-0", "-1", "257", "4294967297"] {
+            let line = format!("damage independent {number}");
+            assert!(all.contains(&line), "{line}");
         }
     }
 

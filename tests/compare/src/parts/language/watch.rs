@@ -7,8 +7,8 @@ use crate::script::Script;
 const STEPS: usize = 1_500;
 
 /// Lines that are refused, that are errors, and that have no answer.
-const OTHERS: [&str; 42] = [
-    "event 1048576",
+const OTHERS: [&str; 44] = [
+    "event 2097152",
     "event 4294967295",
     "turn 4 0",
     "turn 4294967295 255",
@@ -19,6 +19,7 @@ const OTHERS: [&str; 42] = [
     "display 2",
     "pick 2",
     "damage pf 2",
+    "damage independent 1",
     "damage left set 1 1 1 1",
     "damage right ias 59",
     "damage reading roll nan",
@@ -33,6 +34,7 @@ const OTHERS: [&str; 42] = [
     "reading speed 1",
     "send both",
     "damage pf 256",
+    "damage independent 2",
     "watch",
     "watch up",
     "watch on off",

@@ -4,6 +4,8 @@
 
 use std::str;
 
+use crate::parts::shown::Shown;
+
 const SIDES: [&str; 2] = ["LEFT", "RIGHT"];
 const LATERAL: [&str; 6] = ["Off", "ROLL", "HDG", "NAV", "LAPPR", "LGA"];
 const VERTICAL: [&str; 9] = [
@@ -110,20 +112,41 @@ impl Display {
     }
 }
 
-/// The overspeed flag of an answer to `bench`.
-pub fn overspeed(bench: &[u8]) -> Option<bool> {
-    let text = str::from_utf8(bench).ok()?.strip_prefix("bench ")?;
-    match text.split(' ').nth(2)? {
-        "0" => Some(false),
-        "1" => Some(true),
-        _ => None,
+/// What a drawing shows of the bench and no display does.
+#[derive(Clone, Copy, PartialEq, Debug)]
+pub struct Flags {
+    pub overspeed: bool,
+    pub independent: bool,
+}
+
+impl Flags {
+    /// None if it is no answer to a `bench`.
+    pub fn read(answer: &[u8]) -> Option<Flags> {
+        let shown = Shown::read(answer)?;
+        Some(Flags {
+            overspeed: shown.overspeed,
+            independent: shown.independent,
+        })
+    }
+
+    fn row(self) -> String {
+        let overspeed = if self.overspeed {
+            "OVERSPEED FLAG SET"
+        } else {
+            "overspeed flag clear"
+        };
+        let independent = if self.independent { INDEPENDENT } else { "" };
+        words(&format!("{overspeed} {independent}"))
     }
 }
+
+/// What a row says while both sides are flown.
+const INDEPENDENT: &str = "INDEPENDENT";
 
 // ---- What has to be shown ----
 
 /// The words of every row of a side, one space between them.
-pub fn rows(side: usize, display: &Display, overspeed: bool) -> Vec<String> {
+pub fn rows(side: usize, display: &Display, flags: Flags) -> Vec<String> {
     if display.refusal != 0 {
         return vec![format!("{} REFUSED {}", SIDES[side], display.refusal)];
     }
@@ -135,7 +158,7 @@ pub fn rows(side: usize, display: &Display, overspeed: bool) -> Vec<String> {
             on(display.fd != 0),
             on(display.lamps & AUTOPILOT != 0)
         ),
-        flag(overspeed).to_string(),
+        flags.row(),
         lamps(display.lamps),
         "MODES law".to_string(),
         format!("lateral engaged {} {lateral}", name(&LATERAL, lateral)),
@@ -162,14 +185,6 @@ fn on(on: bool) -> &'static str {
         "ON"
     } else {
         "off"
-    }
-}
-
-fn flag(overspeed: bool) -> &'static str {
-    if overspeed {
-        "OVERSPEED FLAG SET"
-    } else {
-        "overspeed flag clear"
     }
 }
 
@@ -218,10 +233,10 @@ impl Target {
 // ---- What is shown ----
 
 /// What is wrong with a drawing, if anything is.
-pub fn check(drawing: &[u8], displays: &[Display; 2], overspeed: bool) -> Result<(), String> {
+pub fn check(drawing: &[u8], displays: &[Display; 2], flags: Flags) -> Result<(), String> {
     let panels = panels(drawing)?;
     for (side, (panel, display)) in panels.iter().zip(displays).enumerate() {
-        let expected = rows(side, display, overspeed);
+        let expected = rows(side, display, flags);
         let checked = if display.refusal == 0 {
             check_rows(panel, &expected)
         } else {
@@ -308,8 +323,17 @@ fn check_refused(panel: &[&str], title: &str) -> Result<(), String> {
 }
 
 /// Words of state, as a panel that is not refused writes them.
-const STATES: [&str; 9] = [
-    "ON", "off", "SET", "clear", "PILOT", "FLYING", "passive", "capture", "track",
+const STATES: [&str; 10] = [
+    "ON",
+    "off",
+    "SET",
+    "clear",
+    INDEPENDENT,
+    "PILOT",
+    "FLYING",
+    "passive",
+    "capture",
+    "track",
 ];
 
 /// Whether a row says anything of the bench. What a target or an axis is called may stay.
@@ -331,6 +355,7 @@ fn has_value(row: &str) -> bool {
 #[cfg(test)]
 pub mod tests {
     use super::*;
+    use crate::parts::shown::tests::{answer, SOME};
 
     /// Two panels as a console draws them, for the displays below.
     pub const DRAWING: &str = "panel
@@ -383,17 +408,27 @@ end
         text + &format!("{edge}  {edge}\nend\n")
     }
 
+    pub const CLEAR: Flags = Flags {
+        overspeed: false,
+        independent: false,
+    };
+
+    const SET: Flags = Flags {
+        overspeed: true,
+        independent: false,
+    };
+
     const TITLES: [&str; 2] = ["LEFT          REFUSED 1", "RIGHT         REFUSED 1"];
 
     fn checked(drawing: &str) -> Result<(), String> {
-        check(drawing.as_bytes(), &displays(), false)
+        check(drawing.as_bytes(), &displays(), CLEAR)
     }
 
     #[test]
     fn a_right_drawing_passes() {
         assert_eq!(checked(DRAWING), Ok(()));
         let set = DRAWING.replace("overspeed flag clear", "OVERSPEED FLAG SET  ");
-        assert_eq!(check(set.as_bytes(), &displays(), true), Ok(()));
+        assert_eq!(check(set.as_bytes(), &displays(), SET), Ok(()));
         // Where the words of a row stand is free.
         let moved = DRAWING.replace(
             "lateral   engaged  HDG            2",
@@ -417,10 +452,67 @@ end
         ] {
             assert_eq!(Display::read(answer.as_bytes()), None, "{answer}");
         }
-        assert_eq!(overspeed(b"bench 0 1 0 9 9\n"), Some(false));
-        assert_eq!(overspeed(b"bench 1 0 1 9 9\n"), Some(true));
-        assert_eq!(overspeed(b"bench 1\n"), None);
-        assert_eq!(overspeed(b"display 1 0 1 0\n"), None);
+        let read = |shown: Shown| Flags::read(answer(&shown).as_bytes()).unwrap();
+        for (overspeed, independent) in FLAGS {
+            let shown = Shown {
+                overspeed,
+                independent,
+                ..SOME
+            };
+            let expected = Flags {
+                overspeed,
+                independent,
+            };
+            assert_eq!(read(shown), expected);
+        }
+        assert_eq!(Flags::read(b"bench 1\n"), None);
+        assert_eq!(Flags::read(b"display 1 0 1 0\n"), None);
+    }
+
+    const FLAGS: [(bool, bool); 4] = [(false, false), (false, true), (true, false), (true, true)];
+
+    /// The row of the flags, on each panel as given.
+    fn with_flags(rows: [&str; 2]) -> String {
+        let [left, right] = rows.map(|row| format!("| {row:<35} |"));
+        let row = "| overspeed flag clear                |";
+        let drawing = DRAWING.replacen(row, &left, 1);
+        drawing.replacen(row, &right, 1)
+    }
+
+    #[test]
+    fn independent_operation_is_said_on_both_panels_exactly_while_it_is_on() {
+        let texts = [
+            "overspeed flag clear",
+            "overspeed flag clear INDEPENDENT",
+            "OVERSPEED FLAG SET",
+            "OVERSPEED FLAG SET      INDEPENDENT",
+        ];
+        for (text, (overspeed, independent)) in texts.into_iter().zip(FLAGS) {
+            let flags = Flags {
+                overspeed,
+                independent,
+            };
+            for left in texts {
+                for right in texts {
+                    let drawing = with_flags([left, right]);
+                    let result = check(drawing.as_bytes(), &displays(), flags);
+                    assert_eq!(result.is_ok(), left == text && right == text, "{drawing}");
+                }
+            }
+        }
+        let on = Flags {
+            independent: true,
+            ..CLEAR
+        };
+        for wrong in [
+            "overspeed flag clear independent",
+            "INDEPENDENT overspeed flag clear",
+            "overspeed flag clear INDEPENDENT ON",
+        ] {
+            let drawing = with_flags([wrong, "overspeed flag clear INDEPENDENT"]);
+            let problem = check(drawing.as_bytes(), &displays(), on).unwrap_err();
+            assert!(problem.contains("where it has to be"), "{problem}");
+        }
     }
 
     #[test]
@@ -508,7 +600,11 @@ end
 
     #[test]
     fn a_refused_panel_says_so_and_shows_no_value() {
-        let check = |drawing: String| check(drawing.as_bytes(), &refused(), true);
+        let on = Flags {
+            independent: true,
+            ..SET
+        };
+        let check = |drawing: String| check(drawing.as_bytes(), &refused(), on);
         assert_eq!(check(drawing_of(TITLES, &[])), Ok(()));
         let bare = [
             "",
@@ -533,6 +629,7 @@ end
             "flight director off",
             "autopilot ON",
             "overspeed flag clear",
+            "INDEPENDENT",
             "PILOT FLYING",
             "passive",
             "REFUSED 1",
@@ -556,7 +653,7 @@ end
 
     #[test]
     fn a_refused_display_and_a_panel_with_values_do_not_go_together() {
-        assert!(check(DRAWING.as_bytes(), &refused(), false).is_err());
+        assert!(check(DRAWING.as_bytes(), &refused(), CLEAR).is_err());
         let refused_title = DRAWING.replace(
             "LEFT                   PILOT FLYING",
             "LEFT                      REFUSED 1",
@@ -564,7 +661,7 @@ end
         assert!(checked(&refused_title).is_err());
         let [_, right] = displays();
         let [left, _] = refused();
-        let one = check(refused_title.as_bytes(), &[left, right], false);
+        let one = check(refused_title.as_bytes(), &[left, right], CLEAR);
         assert!(one.unwrap_err().starts_with("LEFT: a refused panel shows"));
     }
 
@@ -572,7 +669,7 @@ end
     fn every_law_is_named_and_steers_to_its_target() {
         let [mut display, _] = displays();
         let marks = |display: &Display| -> Vec<String> {
-            let rows = rows(0, display, false).split_off(10);
+            let rows = rows(0, display, CLEAR).split_off(10);
             rows.into_iter()
                 .filter(|row| row.starts_with('*'))
                 .collect()
@@ -604,13 +701,10 @@ end
             assert!(marks.iter().all(|row| row.contains(steered.unwrap())));
         }
         display.vertical = 6;
-        assert_eq!(
-            rows(1, &display, true)[7],
-            "vertical engaged ALTSEL track 6"
-        );
+        assert_eq!(rows(1, &display, SET)[7], "vertical engaged ALTSEL track 6");
         display.vertical = 9;
         assert_eq!(
-            rows(1, &display, true)[7],
+            rows(1, &display, SET)[7],
             "vertical engaged (no such law) 9"
         );
     }

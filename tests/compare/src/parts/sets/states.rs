@@ -1,11 +1,9 @@
 //! The states of a bench ahead of a trial, and the calls that lead to them.
 
 use super::Trial;
-use crate::parts::words;
+use crate::parts::words::{self, TRANSFER};
 use crate::say;
 use crate::script::Script;
-
-const TRANSFER: u32 = 5;
 
 /// Arrays go by side.
 #[derive(Clone, Copy, PartialEq, Eq, PartialOrd, Ord, Debug)]
