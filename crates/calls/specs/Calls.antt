@@ -80,7 +80,7 @@ done (display s) b = b
 abbrev pub ifAccepted : {A : Type 0} → Bench → Call → A → A → A
 ifAccepted b c x y = cond (eqb (refusal b c) 0) x y
 
--- the bench after a call: an accepted one leaves what it does, with independent operation off where a side is then without the approach; a refused one leaves what came
+-- the bench after a call: an accepted one leaves what it does, with independent operation off where a side is then without the two modes; a refused one what came
 unfoldable pub next : Bench → Call → Bench
 next b c = ifAccepted b c (ended (done c b)) b
 

@@ -1,4 +1,4 @@
--- Sends and refreshes. Document 01, 'Sends, refreshes, knobs'.
+-- Sends and refreshes. Document 01, 'Sends, refreshes, knobs'; document 02, 2026-03, by which in independent operation both sides act.
 use mathlib.Core.Bool.{cond}
 use Prim.Native.Nat.{ℕ}
 use Rattle.bench.specs.declared.Bench.{Bench}

@@ -1,6 +1,7 @@
--- Demand 3, document 01, 'The claim over a list of calls', and document 02, 2026-03: what holds after a list of calls, whatever they ask for and whether or not they are refused, from
--- power-on and from any other sound bench; and what becomes of a list from an unsound one. `after` and `replies` of Lists apply the rules to one call after another;
--- `accepted`, `transfers`, `refreshes`, `sends` and `pilotFlying` there go by the calls alone. Here are definitions and statements only; the proofs are in proofs/.
+-- Demand 3, document 01, 'The claim over a list of calls', and document 02, 2026-03: what holds after a list of calls, whatever they ask for and whether or not they are
+-- refused, from power-on and from any other sound bench; and what becomes of a list from an unsound one. `after` and `replies` of Lists apply the rules to one call after
+-- another; `accepted`, `transfers`, `refreshes`, `sends` and `pilotFlying` there go by the calls alone, and `OffThroughout` by the rules' bench. Here are definitions and
+-- statements only; the proofs are in proofs/.
 use mathlib.Core.Path.{_≡_}
 use mathlib.Core.Bool.{Bool, true, false, not}
 use mathlib.Core.List.{List, [], _∷_, _++_, map}
@@ -117,7 +118,8 @@ pub record ClaimOf (start : Bench) (pilot : List Call → ℕ) (Unsent : ℕ →
   pub shown : (s : ℕ) → s ≤ 1 → displayFrom start cs s .refusal ≡ 0
   pub keeps : (s : ℕ) → s ≤ 1 → Keeps (modesOn start cs s) (displayFrom start cs s .display)
   -- while independent operation is on, either side shows LAPPR and VAPPR engaged
-  pub both-approach : after start cs .shared .independent ≡ true → (s : ℕ) → s ≤ 1 → (displayFrom start cs s .display .lateral ≡ 4) × (displayFrom start cs s .display .vertical ≡ 7)
+  pub both-approach : after start cs .shared .independent ≡ true → (s : ℕ) → s ≤ 1
+      → (displayFrom start cs s .display .lateral ≡ 4) × (displayFrom start cs s .display .vertical ≡ 7)
   -- the passive side's rule. It is silent while independent operation is on, and from then until the side is refreshed by a call that found it off: so it speaks where
   -- the last refresh found it off and it has been off ever since
   pub passive : (s : ℕ) → s ≤ 1 → (pre post : List Call) → cs ≡ pre ++ (refresh s ∷ post)

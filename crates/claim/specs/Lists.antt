@@ -26,14 +26,21 @@ replies b (c ∷ cs) = reply b c ∷ replies (next b c) cs
 abbrev pub accepted : Call → Bool
 accepted c = eqb (ownRefusal c) 0
 
--- an accepted word whose lowest set bit is 5, the transfer's
+-- accepted, and acting on event e: a word whose lowest set bit is e
+abbrev pub actsOn : ℕ → Call → Bool
+actsOn e (event word) = accepted (event word) && eqb (trailingZeros 32 word) e
+actsOn e (turn knob n) = false
+actsOn e (reading r) = false
+actsOn e (send t) = false
+actsOn e (refresh t) = false
+actsOn e (display t) = false
+
 abbrev pub transfers : Call → Bool
-transfers (event word) = accepted (event word) && eqb (trailingZeros 32 word) 5
-transfers (turn knob n) = false
-transfers (reading r) = false
-transfers (send t) = false
-transfers (refresh t) = false
-transfers (display t) = false
+transfers c = actsOn 5 c
+
+-- the switch of independent operation (document 02, 2026-03)
+abbrev pub asksIndependent : Call → Bool
+asksIndependent c = actsOn 20 c
 
 -- accepted, and a refresh of side s
 abbrev pub refreshes : ℕ → Call → Bool
@@ -61,15 +68,6 @@ pilotFrom p (c ∷ cs) = pilotFrom (cond (transfers c) (otherSide p) p) cs
 -- the pilot flying's side after a list from power-on, where it is left
 abbrev pub pilotFlying : List Call → ℕ
 pilotFlying cs = pilotFrom 0 cs
-
--- an accepted word whose lowest set bit is 20, the switch of independent operation
-abbrev pub asksIndependent : Call → Bool
-asksIndependent (event word) = accepted (event word) && eqb (trailingZeros 32 word) 20
-asksIndependent (turn knob n) = false
-asksIndependent (reading r) = false
-asksIndependent (send t) = false
-asksIndependent (refresh t) = false
-asksIndependent (display t) = false
 
 -- no call of the list is such a call
 abbrev pub None : (Call → Bool) → List Call → Type 0

@@ -1,5 +1,5 @@
--- Document 01, 'Bench sheet', with cases 2 and 10 as document 02 has them: its twelve cases as one claim, about the whole values, the rotations and the rules. A case that is a list of calls begins at power-on.
--- Here are definitions and the statement only; the proof is in proofs/Sheet.antt.
+-- Document 01, 'Bench sheet', with cases 2 and 10 as document 02 has them: its twelve cases as one claim, about the whole values, the rotations and the rules. A case
+-- that is a list of calls begins at power-on. Here are definitions and the statement only; the proof is in proofs/Sheet.antt.
 use mathlib.Core.Path.{_≡_}
 use mathlib.Core.Bool.{false}
 use mathlib.Core.List.{List, [], _∷_, _++_, map}

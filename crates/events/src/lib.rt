@@ -85,7 +85,7 @@ pub fn fd_pressed(e: Event, side: u32) -> bool
     }
 }
 
-// Whether the active side's FD is set On: by AP, the flag and that side's set as handed in.
+// Whether a side that acts asks for FD On: by AP, the flag and that side's set as handed in.
 pub fn asks_fd(e: Event, ap: bool, flag: bool, s: ModeSet) -> bool
     ensures { λ res. ⌜ res ≡ lineOf e .asksFd ap flag s ⌝ }
 {

@@ -89,7 +89,7 @@ left s = eqb s 0
 abbrev right : ℕ → Bool
 right s = eqb s 1
 
--- when the active side's FD is set On: by AP, the flag and the active side's set as handed in
+-- when a side that acts asks for FD On: by AP, the flag and that side's set as handed in
 abbrev never : Bool → Bool → ModeSet → Bool
 never ap flag s = false
 
@@ -170,7 +170,8 @@ pub record Line : Type 0 where
 abbrev line : (Bool → Bool) → (Bool → Bool) → Bool → (ℕ → Bool) → (Bool → Bool → ModeSet → Bool) → (Bool → Modes → Modes) → Line
 line a f t d q c = record { ap = a; flag = f; transfers = t; pressed = d; asksFd = q; change = c }
 
--- a line for each event that goes through the three steps, and an idle one for the two that do not; the columns are AP, the flag, PF, whose FD switch is pressed, when the active side's FD is set On, and the mode change
+-- a line for each event that goes through the three steps, and an idle one for the two that do not; the columns are AP, the flag, PF, whose FD switch is pressed, when
+-- a side that acts asks for FD On, and the mode change
 abbrev pub lineOf : Event → Line
 lineOf ApDisconnect = line off stays remains nobody never none
 lineOf ApSwitch = line toggles stays remains nobody whenApEngages none

@@ -1,4 +1,5 @@
--- The three steps of an event, and the two events without them. Document 01, 'Event words'; document 02, 2026-03. A step is written for a side that is given; `acts` of bench/specs/Sides.antt says which sides act.
+-- The three steps of an event, and the two events without them. Document 01, 'Event words'; document 02, 2026-03. A step is written for a side that is given; `acts` of
+-- bench/specs/Sides.antt says which sides act.
 use mathlib.Core.Bool.{Bool, true, false, _&&_, _||_, cond}
 use Prim.Native.Nat.{ℕ}
 use Rattle.modes.specs.declared.ModeSet.{ModeSet}
