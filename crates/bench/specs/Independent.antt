@@ -17,7 +17,7 @@ independentSound b = implies (b .shared .independent) (bothApproach b)
 unfoldable pub withOperation : Bool → Bench → Bench
 withOperation x b = withShared (withIndependent x (b .shared)) b
 
--- event 20 turns it on if both sides have both modes, and otherwise does nothing
+-- event 20: it is on where both sides have both modes; elsewhere the bench stays as it is
 unfoldable pub begun : Bench → Bench
 begun b = cond (bothApproach b) (withOperation true b) b
 

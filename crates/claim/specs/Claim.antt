@@ -120,8 +120,8 @@ pub record ClaimOf (start : Bench) (pilot : List Call → ℕ) (Unsent : ℕ →
   -- while independent operation is on, either side shows LAPPR and VAPPR engaged
   pub both-approach : after start cs .shared .independent ≡ true → (s : ℕ) → s ≤ 1
       → (displayFrom start cs s .display .lateral ≡ 4) × (displayFrom start cs s .display .vertical ≡ 7)
-  -- the passive side's rule. It is silent while independent operation is on, and from then until the side is refreshed by a call that found it off: so it speaks where
-  -- the last refresh found it off and it has been off ever since
+  -- the passive side's rule. It speaks where independent operation was off when the last refresh came and has been off ever since: so not while it is on, and not after
+  -- a refresh that ended it, which had found it on
   pub passive : (s : ℕ) → s ≤ 1 → (pre post : List Call) → cs ≡ pre ++ (refresh s ∷ post)
       → OffThroughout (after start pre) (refresh s ∷ post)
       → PassiveRule start pilot Unsent s pre post (displayFrom start cs s .display)
