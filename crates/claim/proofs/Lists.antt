@@ -45,10 +45,6 @@ pub idle : (s : ℕ) (b : Bench) → eqb s (b .shared .pf) ≡ false → b .shar
 unfolding acts
 idle s b p o = rw (p, o)
 
-pub off-first : (cs : List Call) (b : Bench) → OffThroughout b cs → b .shared .independent ≡ false
-off-first [] b o = o
-off-first (c ∷ cs) b o = o .0
-
 -- it is off in the second part of a list from where the first part leaves the bench
 pub off-rest : (pre post : List Call) (b : Bench) → OffThroughout b (pre ++ post) → OffThroughout (after b pre) post
 off-rest [] post b o = o
