@@ -19,9 +19,10 @@ use Rattle.bench.specs.Parts.{withShared, withReadings, withBox, withFd, withSe
 use Rattle.bench.specs.Ranges.{within, readingRange}
 use Rattle.bench.specs.Readings.{wholeReading, judged, refusalOf}
 use Rattle.bench.specs.Sides.{otherSide, inboxOf, side, inbox, acts}
-use Rattle.bench.specs.Independent.{begun, ended}
+use Rattle.bench.specs.Independent.{ended}
 use Rattle.bench.specs.Sound.{sound}
 use Rattle.bench.proofs.Replaced.{by-side}
+use Rattle.steps.proofs.ByEvent.{by-event}
 use Rattle.steps.specs.Steps.{sharedAfter, withFdAfter, firstStep, laterSteps, threeSteps, acted}
 use Rattle.calls.specs.Calls.{Call, event, turn, reading, send, refresh, display, sideRefusal, ownRefusal, refusal, received, done, next, answer, eventAnswer, displayAnswer, refusalIn, reply}
 use Rattle.calls.specs.Sends.{sent, taken, refreshed}
@@ -135,22 +136,17 @@ module _ (n : ℕ) (b : Bench) where
   unfolding threeSteps
   later = acting-passive (laterSteps e (b .shared .overspeed)) (λ p hp x. later-within p hp e (b .shared .overspeed) x) (firstStep e b)
 
-  -- what holds of the bench where nothing is done, of the one where independent operation begins, and of the one after the steps, holds after the event
-  by-event : (P : Bench → Type 0) → (isNone e ≡ true → P b) → (isIndependent e ≡ true → P (begun b)) → P (threeSteps e b) → P (acted e b)
-  unfolding acted
-  by-event P x y z = by-cond P (isNone e) b _ x (λ _. by-cond P (isIndependent e) (begun b) (threeSteps e b) y (λ _. z))
-
   stays-pf : lineOf e .transfers ≡ false → b .shared .pf ≡ cond (eqb n 5) (otherSide (b .shared .pf)) (b .shared .pf)
   stays-pf k = rw (← moves-pf n, k)
 
   acted-pf : acted e b .shared .pf ≡ cond (eqb n 5) (otherSide (b .shared .pf)) (b .shared .pf)
   unfolding sharedAfter
   acted-pf =
-      by-event (λ (x : Bench). x .shared .pf ≡ cond (eqb n 5) (otherSide (b .shared .pf)) (b .shared .pf))
+      by-event (λ (x : Bench). x .shared .pf ≡ cond (eqb n 5) (otherSide (b .shared .pf)) (b .shared .pf)) e b
       (λ t. stays-pf (none-stays e t)) (λ t. begun-same b .pf ∙ stays-pf (independent-stays e t)) (rw (later .shared, first-shared e b, moves-pf n))
 
   acted-inbox : (s : ℕ) → s ≤ 1 → inbox (acted e b) s ≡ inbox b s
-  acted-inbox s hs = by-event (λ (x : Bench). inbox x s ≡ inbox b s) (λ _. refl) (λ _. begun-same b .inboxes s) (later .inboxes s hs ∙ first-inbox e b s hs)
+  acted-inbox s hs = by-event (λ (x : Bench). inbox x s ≡ inbox b s) e b (λ _. refl) (λ _. begun-same b .inboxes s) (later .inboxes s hs ∙ first-inbox e b s hs)
 
   -- who acts after the first step, unless it is a transfer's
   still-acts : (s : ℕ) → eqb n 5 ≡ false → acts (firstStep e b) s ≡ acts b s
@@ -159,21 +155,21 @@ module _ (n : ℕ) (b : Bench) where
 
   acted-passive : (s : ℕ) → s ≤ 1 → acts b s ≡ false → eqb n 5 ≡ false → Same (side (acted e b) s) (side b s)
   acted-passive s hs passive t =
-      by-event (λ (x : Bench). Same (side x s) (side b s)) (λ _. same refl) (λ _. same (begun-same b .sides s))
+      by-event (λ (x : Bench). Same (side x s) (side b s)) e b (λ _. same refl) (λ _. same (begun-same b .sides s))
       (same-trans (same (later .side-kept s hs (still-acts s t ∙ passive))) (first-side e b s hs))
 
   -- only event 20 turns independent operation on
   acted-off : eqb n 20 ≡ false → b .shared .independent ≡ false → acted e b .shared .independent ≡ false
   unfolding sharedAfter
   acted-off k off =
-      by-event (λ (x : Bench). x .shared .independent ≡ false) (λ _. off) (λ t. absurd (eqb-false n 20 k (only-20 n t)))
+      by-event (λ (x : Bench). x .shared .independent ≡ false) e b (λ _. off) (λ t. absurd (eqb-false n 20 k (only-20 n t)))
       (rw (later .shared, first-shared e b) (by-cond (λ (x : Bool). x ≡ false) (lineOf e .transfers) false (b .shared .independent) (λ _. refl) (λ _. off)))
 
   -- and a transfer leaves it off
   pub acted-transfer : eqb n 5 ≡ true → acted e b .shared .independent ≡ false
   unfolding sharedAfter
   acted-transfer k =
-      by-event (λ (x : Bench). x .shared .independent ≡ false) (λ t. absurd (false≢true (sym (none-stays e t) ∙ moves-pf n ∙ k)))
+      by-event (λ (x : Bench). x .shared .independent ≡ false) e b (λ t. absurd (false≢true (sym (none-stays e t) ∙ moves-pf n ∙ k)))
       (λ t. absurd (false≢true (sym (independent-stays e t) ∙ moves-pf n ∙ k))) (rw (later .shared, first-shared e b, moves-pf n, k))
 
 -- ---- each call: PF moves at a transfer, an inbox changes at the other side's send, a side that does not act at its refresh and at a transfer, and independent operation

@@ -1,7 +1,7 @@
 -- Sound benches stay sound: the bench of power-on is sound, and of a sound bench every call, accepted or refused, makes a sound one.
 -- The laws that a side shows are within 0 to 5 and 0 to 8, and 0 exactly where its set is Off. Document 01, 'Who can be turned away' and 'Display'. Assumes nothing.
 use mathlib.Core.Path.{_≡_, refl, ap}
-use mathlib.Core.Bool.{true, _&&_, cond}
+use mathlib.Core.Bool.{true, _&&_}
 use Prim.Native.Nat.{ℕ, _≤_}
 use native.Mathlib.Omega.{arith}
 use lib.Dec.{T, eqb, leb, leb→le}
@@ -12,7 +12,7 @@ use Rattle.modes.specs.declared.Modes.{Modes}
 use Rattle.modes.specs.declared.ModeSet.{ModeSet}
 use Rattle.modes.specs.Finite.{Finite, every, all}
 use Rattle.modes.specs.Numbers.{lateralNumber, verticalNumber, lateralLaw, verticalLaw}
-use Rattle.modes.specs.Events.{isNone, isIndependent, eventAt}
+use Rattle.modes.specs.Events.{eventAt}
 use Rattle.modes.proofs.Finite.{at, both-left, both-right}
 use Rattle.modes.proofs.Every.{laterals, verticals}
 use Rattle.bench.specs.declared.Bench.{Bench}
@@ -20,13 +20,13 @@ use Rattle.bench.specs.Parts.{withReference}
 use Rattle.bench.specs.Ranges.{referenceRange}
 use Rattle.bench.specs.Readings.{wholeReading, refusalOf}
 use Rattle.bench.specs.Holds.{startChannel, powerOn}
-use Rattle.bench.specs.Independent.{bothApproach, independentSound, withOperation, begun, ended}
+use Rattle.bench.specs.Independent.{independentSound, ended}
 use Rattle.bench.specs.Sound.{referencesSound, channelSound, readingsSound, sound}
-use Rattle.steps.specs.Steps.{threeSteps, acted}
+use Rattle.steps.proofs.ByEvent.{by-event}
 use Rattle.calls.specs.Calls.{Call, event, turn, reading, send, refresh, display, ownRefusal, refusal, done, next}
 use Rattle.soundness.specs.Kept.{KeepsSound, LawsInRange}
 use Rattle.bench.proofs.SoundParts.{by-cond, PartsIn, parts, whole}
-use Rattle.soundness.proofs.Kept.Changes.{three-sound, turned-sound, received-sound, sent-sound, refreshed-sound, operation-sound, ended-sound, ended-holds}
+use Rattle.soundness.proofs.Kept.Changes.{three-sound, turned-sound, received-sound, sent-sound, refreshed-sound, begun-sound, ended-sound, ended-holds}
 pub mod Changes
 
 -- ---- power-on, computed
@@ -39,12 +39,9 @@ power-on-sound = refl
 
 -- what an accepted call does, in its parts: independent operation is looked at afterwards
 done-sound : (c : Call) (b : Bench) → eqb (ownRefusal c) 0 ≡ true → PartsIn b → PartsIn (done c b)
-unfolding acted begun
 done-sound (event word) b e h =
     let x = eventAt (trailingZeros 32 word) in
-    by-cond PartsIn (isNone x) b (cond (isIndependent x) (begun b) (threeSteps x b)) (λ e. h)
-    (λ e. by-cond PartsIn (isIndependent x) (begun b) (threeSteps x b)
-    (λ e. by-cond PartsIn (bothApproach b) (withOperation true b) b (λ e. operation-sound true b h) (λ e. h)) (λ e. three-sound x b h))
+    by-event PartsIn x b (λ e. h) (λ e. begun-sound b h) (three-sound x b h)
 done-sound (turn knob n) b e h = turned-sound knob n b h
 done-sound (reading r) b e h = received-sound r b e h
 done-sound (send s) b e h = sent-sound s b h

@@ -28,7 +28,7 @@ use Rattle.bench.specs.Parts.{withShared, withCounts, withReadings, box, withBo
 use Rattle.bench.specs.Ranges.{within, clamped, referenceRange}
 use Rattle.bench.specs.Readings.{stored, wholeNumber}
 use Rattle.bench.specs.Sides.{otherSide, inboxOf, side, acts, whereActing, onActing}
-use Rattle.bench.specs.Independent.{bothApproach, independentSound, withOperation, ended}
+use Rattle.bench.specs.Independent.{bothApproach, independentSound, withOperation, begun, ended}
 use Rattle.bench.specs.Sound.{valid}
 use Rattle.bench.proofs.Replaced.{reference-read}
 use Rattle.steps.specs.Entry.{newly, loaded, loads, entry, enter, settled}
@@ -255,9 +255,13 @@ refreshed-sound s b h =
 -- ---- independent operation
 
 -- on or off, it is none of the other parts
-pub operation-sound : (x : Bool) (b : Bench) → PartsIn b → PartsIn (withOperation x b)
+operation-sound : (x : Bool) (b : Bench) → PartsIn b → PartsIn (withOperation x b)
 unfolding withOperation withShared
 operation-sound x b h = search
+
+pub begun-sound : (b : Bench) → PartsIn b → PartsIn (begun b)
+unfolding begun
+begun-sound b h = by-cond PartsIn (bothApproach b) (withOperation true b) b (λ e. operation-sound true b h) (λ e. h)
 
 pub ended-sound : (b : Bench) → PartsIn b → PartsIn (ended b)
 unfolding ended

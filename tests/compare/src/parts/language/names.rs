@@ -175,6 +175,12 @@ mod tests {
             "watch watch",
             "damage wheel heading 7",
             "damage pf left",
+            "press independent",
+            "signal independent",
+            "damage independent",
+            "damage independent 0",
+            "damage independent 1",
+            "damage independent on",
             "reading speed 7",
             "display wheel",
             "help",
@@ -187,21 +193,6 @@ mod tests {
             "bytes bytes",
         ] {
             assert!(all.contains(line), "{line}");
-        }
-    }
-
-    #[test]
-    fn independent_operation_is_named_where_it_may_be_and_where_not() {
-        let all = everywhere();
-        for line in [
-            "press independent",
-            "signal independent",
-            "damage independent",
-            "damage independent 0",
-            "damage independent 1",
-            "damage independent on",
-        ] {
-            assert!(all.contains(&line.to_string()), "{line}");
         }
     }
 
