@@ -1,28 +1,15 @@
 -- What is left of a number when binary digits are dropped one at a time, and how it rounds. Assumes nothing.
-use mathlib.Core.Path.{_≡_, refl, sym, ap}
+use mathlib.Core.Path.{_≡_, sym, ap}
 use mathlib.Core.Bool.{Bool, true, false, _||_}
-use Prim.Native.Nat.{ℕ, zero, suc, _+_, _-_, _*_, _/_, _%_, _^_, _≤_, _<_, compare}
+use Prim.Native.Nat.{ℕ, zero, suc, _+_, _*_, _/_, _%_, _^_, _≤_, _<_, compare}
 use native.Mathlib.Nat.{pow-succ', mod-lt, div-one, mod-one, mul-comm, div-div-eq-div-mul, div-eq-of-lt, mod-eq-of-lt, div-le-self}
+use native.Mathlib.Numerals.{add-one}
 use native.Mathlib.Omega.{arith}
 use lib.Dec.{eqb}
 use lib.Arith.{mod-mul}
 use lib.Ieee.Nearest.{closest}
 use lib.Ieee.Fits.{nearest-le}
-use Rattle.rounding.specs.declared.Cut.{Cut}
-use Rattle.rounding.specs.Cut.{dropOne, cutOf}
 use Rattle.rounding.proofs.Fraction.{by-compare}
-
-pub cut-none : (m n : ℕ) → n ≡ 0 → record { kept = m; half = false; rest = false } ≡ cutOf m n
-unfolding cutOf
-cut-none m n h = rw h
-
-pub cut-more : (m n : ℕ) → (n ≡ 0 → ⊥) → dropOne (cutOf m (n - 1)) ≡ cutOf m n
-unfolding cutOf
-cut-more m zero h = absurd (h refl)
-cut-more m (suc n) h = ap (λ (k : ℕ). dropOne (cutOf m k)) (back n)
-  where
-    back : (n : ℕ) → suc n - 1 ≡ n
-    back n = omega arith
 
 -- How the remainder r lies to the divisor p: by the last digit dropped, and by whether a digit before it was 1
 abbrev pub Lies : Bool → Bool → ℕ → ℕ → Type 0
@@ -43,26 +30,28 @@ lies-up (suc zero) r p true false b k l = omega arith
 lies-up (suc zero) r p true true b k l = omega arith
 lies-up (suc (suc d)) r p h s b k l = absurd (omega arith)
 
--- c is what is left of m when the digits below p are dropped
-pub record Says (c : Cut) (m p : ℕ) : Type 0 where
+-- kept, half and rest are what is left of m when the digits below p are dropped
+pub record Dropped (kept : ℕ) (half rest : Bool) (m p : ℕ) : Type 0 where
   pub above : 0 < p
-  pub whole : c .kept ≡ m / p
-  pub remainder : Lies (c .half) (c .rest) (m % p) p
+  pub whole : kept ≡ m / p
+  pub remainder : Lies half rest (m % p) p
 
-says-more : (c : Cut) (m p : ℕ) → Says c m p → Says (dropOne c) m (2 * p)
-says-more c m p s =
-    let P = s .above in
-    let d : c .kept % 2 * p + m % p ≡ m % (2 * p) = rw (s .whole) (sym (mod-mul m {m = 2} {c = p} (omega arith) P)) in
-    record {
-      above = omega arith;
-      whole = rw (s .whole, div-div-eq-div-mul m p 2, mul-comm p 2);
-      remainder = rw (← d) (lies-up (c .kept % 2) (m % p) p (c .half) (c .rest) (omega arith) (mod-lt m P) (s .remainder));
-    }
+pub dropped-none : (m : ℕ) → Dropped m false false m (2 ^ 0)
+dropped-none m = record { above = omega arith; whole = sym (div-one m); remainder = mod-one m }
 
-pub cut-says : (m n : ℕ) → Says (cutOf m n) m (2 ^ n)
-unfolding cutOf
-cut-says m zero = record { above = omega arith; whole = sym (div-one m); remainder = mod-one m }
-cut-says m (suc n) = rw (pow-succ' 2 n) (says-more (cutOf m n) m (2 ^ n) (cut-says m n))
+-- one digit more
+pub dropped-more : (k : ℕ) (h s : Bool) (m n : ℕ) → Dropped k h s m (2 ^ n) → Dropped (k / 2) (eqb (k % 2) 1) (h || s) m (2 ^ (n + 1))
+dropped-more k h s m n d = rw (add-one, pow-succ' 2 n) (go (2 ^ n) d)
+  where
+    go : (p : ℕ) → Dropped k h s m p → Dropped (k / 2) (eqb (k % 2) 1) (h || s) m (2 * p)
+    go p d =
+        let P = d .above in
+        let e : k % 2 * p + m % p ≡ m % (2 * p) = rw (d .whole) (sym (mod-mul m {m = 2} {c = p} (omega arith) P)) in
+        record {
+          above = omega arith;
+          whole = rw (d .whole, div-div-eq-div-mul m p 2, mul-comm p 2);
+          remainder = rw (← e) (lies-up (k % 2) (m % p) p h s (omega arith) (mod-lt m P) (d .remainder));
+        }
 
 -- ---- rounding
 
@@ -81,26 +70,26 @@ less : (s : Bool) (r p : ℕ) → 0 < p → Lies false s r p → r * 2 < p
 less false r p P l = omega arith
 less true r p P l = l .1
 
-module _ {c : Cut} {m p : ℕ} (s : Says c m p) where
+module _ {kept m p : ℕ} {half rest : Bool} (d : Dropped kept half rest m p) where
   -- the last digit dropped was 0: less than a half
-  pub round-down : c .half ≡ false → c .kept ≡ closest m p
+  pub round-down : half ≡ false → kept ≡ closest m p
   round-down e =
-      let l = less (c .rest) (m % p) p (s .above) (rw e at (s .remainder)) in
-      by-compare (λ (q : ℕ). c .kept ≡ q) (m / p) (m % p * 2) p (λ k. s .whole) (λ k. absurd (omega arith)) (λ k. absurd (omega arith))
+      let l = less rest (m % p) p (d .above) (rw e at (d .remainder)) in
+      by-compare (λ (q : ℕ). kept ≡ q) (m / p) (m % p * 2) p (λ k. d .whole) (λ k. absurd (omega arith)) (λ k. absurd (omega arith))
 
   -- it was 1, and no other: a tie
-  pub round-tie : c .half ≡ true → c .rest ≡ false → c .kept + c .kept % 2 ≡ closest m p
+  pub round-tie : half ≡ true → rest ≡ false → kept + kept % 2 ≡ closest m p
   round-tie e f =
-      let l = rw (e, f) at (s .remainder) in
-      by-compare (λ (q : ℕ). c .kept + c .kept % 2 ≡ q) (m / p) (m % p * 2) p
-      (λ k. absurd (omega arith)) (λ k. ap (λ (x : ℕ). x + x % 2) (s .whole)) (λ k. absurd (omega arith))
+      let l = rw (e, f) at (d .remainder) in
+      by-compare (λ (q : ℕ). kept + kept % 2 ≡ q) (m / p) (m % p * 2) p
+      (λ k. absurd (omega arith)) (λ k. ap (λ (x : ℕ). x + x % 2) (d .whole)) (λ k. absurd (omega arith))
 
   -- it was 1, and so was one before it: more than a half
-  pub round-up : c .half ≡ true → c .rest ≡ true → c .kept + 1 ≡ closest m p
+  pub round-up : half ≡ true → rest ≡ true → kept + 1 ≡ closest m p
   round-up e f =
-      let l = rw (e, f) at (s .remainder) in
-      by-compare (λ (q : ℕ). c .kept + 1 ≡ q) (m / p) (m % p * 2) p
-      (λ k. absurd (omega arith)) (λ k. absurd (omega arith)) (λ k. let d = s .whole in omega arith)
+      let l = rw (e, f) at (d .remainder) in
+      by-compare (λ (q : ℕ). kept + 1 ≡ q) (m / p) (m % p * 2) p
+      (λ k. absurd (omega arith)) (λ k. absurd (omega arith)) (λ k. let w = d .whole in omega arith)
 
-  pub kept-le : c .kept ≤ m
-  kept-le = rw (s .whole) (div-le-self m p)
+  pub kept-le : kept ≤ m
+  kept-le = rw (d .whole) (div-le-self m p)

@@ -2,4 +2,3 @@ pub mod Whole
 pub mod Fraction
 pub mod Laws
 pub mod Sheet
-pub mod Cut

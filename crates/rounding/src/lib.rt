@@ -4,7 +4,6 @@ ghost use Prim.Native.Nat.{_^_, _<_, _≤_};
 ghost use lib.Ieee.{ofBits, binary64};
 ghost use lib.Ieee.Nearest.{closest};
 ghost use Rattle.rounding.specs.Whole.{signedOf, inAnswer, wholeOf};
-ghost use Rattle.rounding.specs.Cut.{dropOne, cutOf};
 
 // What a float rounds to.
 pub enum Whole {
@@ -15,56 +14,26 @@ pub enum Whole {
     Value(i32),
 }
 
-// A number with binary digits dropped: the digits kept, the last digit dropped, and whether any
-// digit dropped before it was 1. The last two tell a tie from more and from less than a half.
-struct Cut {
-    kept: u64,
-    half: bool,
-    rest: bool,
-}
-
-// One more digit dropped.
-fn drop_one(c: Cut) -> Cut
-    ensures { λ res. ⌜ res ≡ dropOne c ⌝ }
-{
-    let kept = c.kept;
-    let half = c.half;
-    let rest = c.rest;
-    Cut {
-        kept: kept / 2,
-        half: kept % 2 == 1,
-        rest: half | rest,
-    }
-}
-
-// `digits` with its `places` last binary digits dropped, one at a time.
-// The recursion is 54 calls deep at most, below 60: whole_of_bits answers an exponent below 1022
-// (a magnitude below one half) and one from 1075 on (Beyond) at once, so places is at most
-// 1075 - 1022 = 53, and the call with places 0 is the last.
-fn drop_digits(digits: u64, places: u64) -> Cut
-    ensures { λ res. ⌜ res ≡ cutOf digits places ⌝ }
-{
-    if places == 0 {
-        Cut {
-            kept: digits,
-            half: false,
-            rest: false,
-        }
-    } else {
-        drop_one(drop_digits(digits, places - 1))
-    }
-}
-
 // The whole number nearest to digits / 2^places, of two such the even one.
-// The bound, 2^53, is that of a float's digits: it keeps the sums from wrapping.
+// Binary digits are dropped one at a time: half is the last one dropped, and rest is whether one
+// before it was 1. Together they tell a tie from more and from less than a half.
+// At most 53 rounds: whole_of_bits answers an exponent below 1022 (a magnitude below one half) and
+// one from 1075 on (Beyond) at once, so places is at most 1075 - 1022.
+// The bound on digits, 2^53, is that of a float's digits: it keeps the sums from wrapping.
 fn nearest(digits: u64, places: u64) -> u64
     requires { ⌜ digits < 9007199254740992 ⌝ }
     ensures { λ res. ⌜ res ≡ closest digits (2 ^ places) ⌝ }
 {
-    let c = drop_digits(digits, places);
-    let kept = c.kept;
-    let half = c.half;
-    let rest = c.rest;
+    let mut kept = digits;
+    let mut half = false;
+    let mut rest = false;
+    let mut dropped = 0;
+    while dropped < places {
+        rest = half | rest;
+        half = kept % 2 == 1;
+        kept = kept / 2;
+        dropped += 1;
+    }
     if half {
         if rest { kept + 1 } else { kept + kept % 2 }
     } else {

@@ -2,11 +2,12 @@
 -- whole value of every float with such a field (`proofs/Floats.antt`). Assumes nothing.
 use borrow.Author.Needs.{needs}
 use mathlib.Core.Path.{_∙_, ap}
-use Prim.Native.Nat.{ℕ}
+use Prim.Native.Nat.{ℕ, _-_, _≤_}
+use native.Mathlib.Omega.{arith}
 use mir.Syntax.{w64}
 use mir.ValLaws.{toZ-ofZ}
 use Rattle.rounding.specs.Whole.{signedOf, inAnswer}
-use Rattle.rounding.proofs.Floats.{sign, bits-ones, bits-large, bits-small, bits-middle, bits-le}
+use Rattle.rounding.proofs.Floats.{sign, field, bits-ones, bits-large, bits-small, bits-middle, bits-le}
 use Rattle.rounding.proofs.whole_of_bits.Statement.{statement}
 use Rattle.rounding.proofs.whole_of_bits.Tie as tie
 
@@ -20,7 +21,11 @@ returns-2 c = bits-large (c .before .before .args .bits) (c .before .if1 .left) 
 
 -- below a half
 returns-3 : tie.Need-returns-3
-returns-3 c = bits-small (c .before .before .before .args .bits) (c .if3 .taken)
+returns-3 c = bits-small (c .before .before .before .args .bits) (omega arith)
+
+-- The loop of `nearest` has a round for each place: 53 at most, since no field below 1022 comes so far.
+pub at-most-53 : (c : tie.After-nearest) → 1075 - field (c .before .before .before .before .args .bits) ≤ 53
+at-most-53 c = omega arith
 
 signed-requires : tie.Need-signed-requires
 signed-requires c κs = let at-if2 = c .before .before in rw (c .nearest .ensures) (bits-le (at-if2 .before .before .args .bits))
