@@ -40,8 +40,8 @@ pub dropped-none : (m : ℕ) → Dropped m false false m (2 ^ 0)
 dropped-none m = record { above = omega arith; whole = sym (div-one m); remainder = mod-one m }
 
 -- one digit more
-pub dropped-more : (k : ℕ) (h s : Bool) (m n : ℕ) → Dropped k h s m (2 ^ n) → Dropped (k / 2) (eqb (k % 2) 1) (h || s) m (2 ^ (n + 1))
-dropped-more k h s m n d = rw (add-one, pow-succ' 2 n) (go (2 ^ n) d)
+pub dropped-more : {k : ℕ} {h s : Bool} {m : ℕ} (n : ℕ) → Dropped k h s m (2 ^ n) → Dropped (k / 2) (eqb (k % 2) 1) (h || s) m (2 ^ (n + 1))
+dropped-more {k} {h} {s} {m} n d = rw (add-one, pow-succ' 2 n) (go (2 ^ n) d)
   where
     go : (p : ℕ) → Dropped k h s m p → Dropped (k / 2) (eqb (k % 2) 1) (h || s) m (2 * p)
     go p d =

@@ -15,8 +15,8 @@ pub enum Whole {
 }
 
 // The whole number nearest to digits / 2^places, of two such the even one.
-// Binary digits are dropped one at a time: half is the last one dropped, and rest is whether one
-// before it was 1. Together they tell a tie from more and from less than a half.
+// Binary digits are dropped one at a time. half is whether the last one dropped was 1, rest whether
+// one before it was: together they tell a tie from more and from less than a half.
 // At most 53 rounds: whole_of_bits answers an exponent below 1022 (a magnitude below one half) and
 // one from 1075 on (Beyond) at once, so places is at most 1075 - 1022.
 // The bound on digits, 2^53, is that of a float's digits: it keeps the sums from wrapping.

@@ -17,9 +17,7 @@ abbrev μ-loop : tie.MeasureT-loop
 μ-loop digits places kept₀ half₀ rest₀ dropped₀ kept half rest dropped = places - dropped
 
 loop-again : tie.Need-loop-again Inv-loop μ-loop
-loop-again c =
-    let l = c .before .loop in
-    (omega arith, dropped-more (l .kept) (l .half) (l .rest) (c .before .before .args .digits) (l .dropped) (l .inv .1))
+loop-again c = (omega arith, dropped-more (c .before .loop .dropped) (c .before .loop .inv .1))
 
 all-dropped : (c : tie.After-loop Inv-loop μ-loop) →
     Dropped (c .before .loop .kept) (c .before .loop .half) (c .before .loop .rest) (c .before .before .args .digits) (2 ^ c .before .before .args .places)
