@@ -3,7 +3,7 @@
 use Prim.Native.Nat.{ℕ, _+_, _%_}
 use Rattle.scripts.specs.declared.Command.{Command}
 use Rattle.scripts.specs.declared.Command.the-variants.{Blank, Wrong, Event, Send, Refresh, Display, Pick, Turn, Knob, Reading, PowerOn, Panel, Help, Watch}
-use Rattle.scripts.specs.declared.Command.the-variants.{DamagePf, DamageReading, DamageSet, DamageReference, DamageIndependent, Area, Poke, Write, Read, Bytes}
+use Rattle.scripts.specs.declared.Command.the-variants.{DamagePf, DamageReading, DamageWhole, DamageSet, DamageReference, DamageIndependent, Area, Poke, Write, Read, Bytes}
 use Rattle.scripts.specs.declared.Command.the-variants.{Bench as WriteBench}
 use Rattle.bench.specs.declared.Bench.{Bench}
 use Rattle.bench.specs.Holds.{powerOn}
@@ -11,10 +11,10 @@ use Rattle.bench.specs.Parts.{countOf}
 use Rattle.bench.specs.Independent.{withOperation}
 use Rattle.calls.specs.declared.answers.Answer.{Answer}
 use Rattle.calls.specs.declared.answers.EventAnswer.{EventAnswer}
-use Rattle.calls.specs.Calls.{Call, received, answer, eventAnswer}
+use Rattle.calls.specs.Calls.{Call, answer, eventAnswer}
 use Rattle.acts.specs.declared.Effect.{Effect}
 use Rattle.areas.specs.declared.AreaAct.{AreaAct}
-use Rattle.acts.specs.Damage.{pfDamaged, setDamaged, referenceDamaged}
+use Rattle.acts.specs.Damage.{pfDamaged, setDamaged, referenceDamaged, readingDamaged, wholeDamaged}
 
 -- the answer of a call that is no event: 32 names none
 abbrev pub eventless : Answer → EventAnswer
@@ -46,7 +46,8 @@ answerTo Panel b = leaves b
 answerTo Help b = leaves b
 answerTo (Watch on) b = leaves b
 answerTo (DamagePf n) b = leaves (pfDamaged n b)
-answerTo (DamageReading r) b = leaves (received r b)
+answerTo (DamageReading r) b = leaves (readingDamaged r b)
+answerTo (DamageWhole kind x) b = leaves (wholeDamaged kind x b)
 answerTo (DamageSet n set) b = leaves (setDamaged n set b)
 answerTo (DamageReference n place x) b = leaves (referenceDamaged n place x b)
 answerTo (DamageIndependent on) b = leaves (withOperation on b)
@@ -80,6 +81,7 @@ effectOf Help = Effect.Shows
 effectOf (Watch on) = Effect.Watches on
 effectOf (DamagePf n) = Effect.Acts
 effectOf (DamageReading r) = Effect.Acts
+effectOf (DamageWhole kind x) = Effect.Acts
 effectOf (DamageSet n set) = Effect.Acts
 effectOf (DamageReference n place x) = Effect.Acts
 effectOf (DamageIndependent on) = Effect.Acts

@@ -1,8 +1,7 @@
 // Changes parts of a bench without asking any rule: a way to try refusal 1.
 ghost use mathlib.Core.Path.{_≡_};
 ghost use Rattle.bench.specs.Readings.{stored};
-ghost use Rattle.calls.specs.Calls.{received};
-ghost use Rattle.acts.specs.Damage.{pfDamaged, setDamaged, referenceDamaged};
+ghost use Rattle.acts.specs.Damage.{pfDamaged, setDamaged, referenceDamaged, readingDamaged, wholeDamaged};
 use bench::Bench;
 use bench::Reading;
 use bench::Readings;
@@ -66,9 +65,18 @@ fn store(w: Readings, r: Reading) -> Readings
     }
 }
 
+// The float alone: its whole value stays what it was.
 pub(crate) fn damage_reading(b: Bench, r: Reading) -> Bench
-    ensures { λ res. ⌜ res ≡ received r b ⌝ }
+    ensures { λ res. ⌜ res ≡ readingDamaged r b ⌝ }
 {
     let was = b.readings;
     bench::parts::with_readings(b, store(was, r))
+}
+
+// The whole value of a kind alone.
+pub(crate) fn damage_whole(b: Bench, kind: u32, x: i32) -> Bench
+    ensures { λ res. ⌜ res ≡ wholeDamaged kind x b ⌝ }
+{
+    let was = b.wholes;
+    bench::parts::with_wholes(b, bench::parts::with_whole(was, kind, x))
 }

@@ -12,6 +12,7 @@ use damage::damage_pf;
 use damage::damage_reading;
 use damage::damage_reference;
 use damage::damage_set;
+use damage::damage_whole;
 use scripts::Command;
 
 // The answer of a call that is no event: 32 names none.
@@ -77,6 +78,7 @@ pub fn effect_of(c: Command) -> Effect
         Command::Watch(on) => Effect::Watches(on),
         Command::DamagePf(_) => Effect::Acts,
         Command::DamageReading(_) => Effect::Acts,
+        Command::DamageWhole(_, _) => Effect::Acts,
         Command::DamageSet(_, _) => Effect::Acts,
         Command::DamageReference(_, _, _) => Effect::Acts,
         Command::DamageIndependent(_) => Effect::Acts,
@@ -112,6 +114,7 @@ pub fn answer_to(b: Bench, c: Command) -> EventAnswer
         Command::Watch(_) => bench_alone(b),
         Command::DamagePf(n) => bench_alone(damage_pf(b, n)),
         Command::DamageReading(r) => bench_alone(damage_reading(b, r)),
+        Command::DamageWhole(kind, x) => bench_alone(damage_whole(b, kind, x)),
         Command::DamageSet(n, set) => bench_alone(damage_set(b, n, set)),
         Command::DamageReference(n, place, x) => bench_alone(damage_reference(b, n, place, x)),
         Command::DamageIndependent(on) => bench_alone(with_operation(b, on)),

@@ -1,4 +1,5 @@
+pub mod Same
 pub mod Replaced
 pub mod SoundParts
 pub mod Independent
-pub mod Wholes
+pub mod WholeLaws

@@ -8,7 +8,7 @@ use lib.IntN.{ℤ}
 use Rattle.bench.specs.declared.References.{References}
 use Rattle.bench.specs.declared.Channel.{Channel}
 use Rattle.bench.specs.declared.Bench.{Bench}
-use Rattle.bench.specs.Parts.{withShared, withCounts, withReadings, box, withBox, reference, withReference}
+use Rattle.bench.specs.Parts.{withShared, withCounts, withReadings, withWholes, box, withBox, reference, withReference}
 use Rattle.bench.specs.Laws.{PartLaws}
 
 -- what holds of both sides holds of a side, and of the four boxes of a box
@@ -44,11 +44,12 @@ reference-read n (suc (suc (suc (suc (suc (suc zero)))))) x r h = refl
 reference-read n (suc (suc (suc (suc (suc (suc (suc m))))))) x r h = absurd (omega arith)
 
 pub part-laws : PartLaws
-unfolding withShared withCounts withReadings withBox
+unfolding withShared withCounts withReadings withWholes withBox
 part-laws = record {
-  shared = λ x b. record { shared = refl; counts = refl; readings = refl; each-box = λ m h. refl };
-  counts = λ x b. record { shared = refl; counts = refl; readings = refl; each-box = λ m h. refl };
-  readings = λ x b. record { shared = refl; counts = refl; readings = refl; each-box = λ m h. refl };
-  boxes = λ n c b. record { shared = refl; counts = refl; readings = refl; each-box = λ m h. box-read n m c b h };
+  shared = λ x b. record { shared = refl; counts = refl; readings = refl; wholes = refl; each-box = λ m h. refl };
+  counts = λ x b. record { shared = refl; counts = refl; readings = refl; wholes = refl; each-box = λ m h. refl };
+  readings = λ x b. record { shared = refl; counts = refl; readings = refl; wholes = refl; each-box = λ m h. refl };
+  wholes = λ x b. record { shared = refl; counts = refl; readings = refl; wholes = refl; each-box = λ m h. refl };
+  boxes = λ n c b. record { shared = refl; counts = refl; readings = refl; wholes = refl; each-box = λ m h. box-read n m c b h };
   references = reference-read;
 }

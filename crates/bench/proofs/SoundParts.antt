@@ -8,10 +8,11 @@ use Rattle.modes.specs.Sets.{coherentSet}
 use Rattle.bench.specs.declared.References.{References}
 use Rattle.bench.specs.declared.Channel.{Channel}
 use Rattle.bench.specs.declared.Readings.{Readings}
+use Rattle.bench.specs.declared.Wholes.{Wholes}
 use Rattle.bench.specs.declared.Reading.{Reading}
 use Rattle.bench.specs.declared.Bench.{Bench}
 use Rattle.bench.specs.Independent.{independentSound}
-use Rattle.bench.specs.Sound.{inRange, referencesSound, channelSound, valid, readingsSound, sound}
+use Rattle.bench.specs.Sound.{inRange, referencesSound, channelSound, kept, readingsSound, sound}
 
 -- what holds of x if t is true, and of y if it is false, holds of the one that t picks
 pub by-cond : {A : Type 0} (P : A → Type 0) (t : Bool) (x y : A) → (t ≡ true → P x) → (t ≡ false → P y) → P (cond t x y)
@@ -40,14 +41,14 @@ pub record ChannelIn (c : Channel) : Type 0 where
   pub set : coherentSet (c .set) ≡ true
   pub references : ReferencesIn (c .references)
 
--- six readings, each of which would be accepted
-pub record ReadingsIn (w : Readings) : Type 0 where
-  pub altitude : valid (Reading.Altitude (w .altitude)) ≡ true
-  pub airspeed : valid (Reading.Airspeed (w .airspeed)) ≡ true
-  pub «vertical_speed» : valid (Reading.VerticalSpeed (w .«vertical_speed»)) ≡ true
-  pub roll : valid (Reading.Roll (w .roll)) ≡ true
-  pub pitch : valid (Reading.Pitch (w .pitch)) ≡ true
-  pub heading : valid (Reading.Heading (w .heading)) ≡ true
+-- six readings, each of which would be accepted, with their whole values
+pub record ReadingsIn (w : Readings) (k : Wholes) : Type 0 where
+  pub altitude : kept (Reading.Altitude (w .altitude)) (k .altitude) ≡ true
+  pub airspeed : kept (Reading.Airspeed (w .airspeed)) (k .airspeed) ≡ true
+  pub «vertical_speed» : kept (Reading.VerticalSpeed (w .«vertical_speed»)) (k .«vertical_speed») ≡ true
+  pub roll : kept (Reading.Roll (w .roll)) (k .roll) ≡ true
+  pub pitch : kept (Reading.Pitch (w .pitch)) (k .pitch) ≡ true
+  pub heading : kept (Reading.Heading (w .heading)) (k .heading) ≡ true
 
 -- a bench that is sound but for independent operation: a call passes through such benches before it ends that
 pub record PartsIn (b : Bench) : Type 0 where
@@ -56,7 +57,7 @@ pub record PartsIn (b : Bench) : Type 0 where
   pub right : ChannelIn (b .right)
   pub «left_inbox» : ChannelIn (b .«left_inbox»)
   pub «right_inbox» : ChannelIn (b .«right_inbox»)
-  pub readings : ReadingsIn (b .readings)
+  pub readings : ReadingsIn (b .readings) (b .wholes)
 
 -- ---- from a test to its parts, and back
 
@@ -93,17 +94,21 @@ pub channel-whole : (c : Channel) → ChannelIn c → channelSound c ≡ true
 unfolding channelSound
 channel-whole c h = search (and-both, references-whole)
 
-readings-parts : (w : Readings) → readingsSound w ≡ true → ReadingsIn w
+pub readings-parts : (w : Readings) (k : Wholes) → readingsSound w k ≡ true → ReadingsIn w k
 unfolding readingsSound
-readings-parts w h = search (and-left, and-right) depth 8
+readings-parts w k h = search (and-left, and-right) depth 8
 
-readings-whole : (w : Readings) → ReadingsIn w → readingsSound w ≡ true
+readings-whole : (w : Readings) (k : Wholes) → ReadingsIn w k → readingsSound w k ≡ true
 unfolding readingsSound
-readings-whole w h = cc
+readings-whole w k h = cc
 
 pub parts : (b : Bench) → sound b ≡ true → PartsIn b
 unfolding sound
 parts b h = search (and-left, and-right, channel-parts, readings-parts) depth 9
+
+pub readings-part : (b : Bench) → sound b ≡ true → readingsSound (b .readings) (b .wholes) ≡ true
+unfolding sound
+readings-part b h = search (and-left, and-right) depth 9
 
 pub independent-part : (b : Bench) → sound b ≡ true → independentSound b ≡ true
 unfolding sound

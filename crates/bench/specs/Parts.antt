@@ -1,4 +1,4 @@
--- The parts of a bench, read and replaced. Document 01, 'What a bench value holds'. Here, and in power-on, a bench, a channel and the references are spelled out, and nowhere else.
+-- The parts of a bench, read and replaced. Document 01, 'What a bench value holds'; document 02, 2026-05, for whole values. Here, and in power-on, a bench, a channel and the references are spelled out, and nowhere else.
 use mathlib.Core.Bool.{Bool, cond}
 use Prim.Native.Nat.{ℕ}
 use lib.Dec.{eqb}
@@ -9,15 +9,17 @@ use Rattle.bench.specs.declared.References.{References}
 use Rattle.bench.specs.declared.Channel.{Channel}
 use Rattle.bench.specs.declared.Counts.{Counts}
 use Rattle.bench.specs.declared.Readings.{Readings}
+use Rattle.bench.specs.declared.Wholes.{Wholes}
 use Rattle.bench.specs.declared.Bench.{Bench}
 
--- ---- a bench with another shared part, other counts, other readings
+-- ---- a bench with another shared part, other counts, other readings, other whole values
 
 unfoldable pub withShared : Shared → Bench → Bench
 withShared x b = record {
   shared = x;
   counts = b .counts;
   readings = b .readings;
+  wholes = b .wholes;
   left = b .left;
   right = b .right;
   «left_inbox» = b .«left_inbox»;
@@ -29,6 +31,7 @@ withCounts x b = record {
   shared = b .shared;
   counts = x;
   readings = b .readings;
+  wholes = b .wholes;
   left = b .left;
   right = b .right;
   «left_inbox» = b .«left_inbox»;
@@ -40,6 +43,19 @@ withReadings x b = record {
   shared = b .shared;
   counts = b .counts;
   readings = x;
+  wholes = b .wholes;
+  left = b .left;
+  right = b .right;
+  «left_inbox» = b .«left_inbox»;
+  «right_inbox» = b .«right_inbox»;
+}
+
+unfoldable pub withWholes : Wholes → Bench → Bench
+withWholes x b = record {
+  shared = b .shared;
+  counts = b .counts;
+  readings = b .readings;
+  wholes = x;
   left = b .left;
   right = b .right;
   «left_inbox» = b .«left_inbox»;
@@ -56,6 +72,7 @@ withBox n c b = record {
   shared = b .shared;
   counts = b .counts;
   readings = b .readings;
+  wholes = b .wholes;
   left = cond (eqb n 0) c (b .left);
   right = cond (eqb n 1) c (b .right);
   «left_inbox» = cond (eqb n 2) c (b .«left_inbox»);
@@ -138,4 +155,16 @@ withCount knob n c = record {
   altitude = cond (eqb knob 1) n (c .altitude);
   speed = cond (eqb knob 2) n (c .speed);
   heading = cond (eqb knob 3) n (c .heading);
+}
+
+-- ---- whole values, by the number of the reading's kind, 0 to 5 in the order of the fields
+
+unfoldable pub withWhole : ℕ → ℤ → Wholes → Wholes
+withWhole kind x k = record {
+  altitude = cond (eqb kind 0) x (k .altitude);
+  airspeed = cond (eqb kind 1) x (k .airspeed);
+  «vertical_speed» = cond (eqb kind 2) x (k .«vertical_speed»);
+  roll = cond (eqb kind 3) x (k .roll);
+  pitch = cond (eqb kind 4) x (k .pitch);
+  heading = cond (eqb kind 5) x (k .heading);
 }

@@ -1,5 +1,5 @@
--- Readings. Document 01, 'Readings', and the air data feed's refusals 5 and 6; document 02, 2026-01.
-use mathlib.Core.Bool.{cond}
+-- Readings. Document 01, 'Readings', and the air data feed's refusals 5 and 6; document 02, 2026-01 and 2026-05.
+use mathlib.Core.Bool.{Bool, false, cond}
 use Prim.Native.Nat.{ℕ}
 use lib.Dec.{eqb}
 use lib.IntN.{ℤ, pos, negsuc}
@@ -8,7 +8,9 @@ use Rattle.rounding.specs.declared.Whole.{Whole}
 use Rattle.rounding.specs.Whole.{wholeOf}
 use Rattle.bench.specs.declared.Reading.{Reading}
 use Rattle.bench.specs.declared.Readings.{Readings}
+use Rattle.bench.specs.declared.Wholes.{Wholes}
 use Rattle.bench.specs.declared.ranges.Range.{Range}
+use Rattle.bench.specs.Parts.{withWhole}
 use Rattle.bench.specs.Ranges.{within, readingRange}
 
 abbrev pub floatOf : Reading → Float
@@ -39,7 +41,7 @@ ofKind r Whole.NotFinite = Whole.NotFinite
 ofKind r Whole.Beyond = Whole.Beyond
 ofKind r (Whole.Value z) = Whole.Value (wrapped r z)
 
--- the whole value of a reading, which is compared with the range and loaded by entry: the integer nearest to its float, as its kind has it
+-- the whole value of a reading, which is compared with the range and kept: the integer nearest to its float, as its kind has it
 unfoldable pub wholeReading : Reading → Whole
 wholeReading r = ofKind r (wholeOf (floatOf r))
 
@@ -52,7 +54,7 @@ judged r (Whole.Value z) = cond (within r z) 0 6
 unfoldable pub refusalOf : Reading → ℕ
 refusalOf r = judged (readingRange r) (wholeReading r)
 
--- a whole value as a number, and 0 of a float that has none, which no sound bench holds
+-- a whole value as a number, and 0 of a float that has none, which is never accepted
 abbrev pub numberOf : Whole → ℤ
 numberOf Whole.NotFinite = pos 0
 numberOf Whole.Beyond = pos 0
@@ -60,6 +62,8 @@ numberOf (Whole.Value z) = z
 
 unfoldable pub wholeNumber : Reading → ℤ
 wholeNumber r = numberOf (wholeReading r)
+
+-- ---- what is kept of a reading: its float and its whole value
 
 -- the readings with the one of this kind replaced
 unfoldable pub stored : Reading → Readings → Readings
@@ -69,3 +73,34 @@ stored (Reading.VerticalSpeed x) w = record { altitude = w .altitude; airspeed =
 stored (Reading.Roll x) w = record { altitude = w .altitude; airspeed = w .airspeed; «vertical_speed» = w .«vertical_speed»; roll = x; pitch = w .pitch; heading = w .heading }
 stored (Reading.Pitch x) w = record { altitude = w .altitude; airspeed = w .airspeed; «vertical_speed» = w .«vertical_speed»; roll = w .roll; pitch = x; heading = w .heading }
 stored (Reading.Heading x) w = record { altitude = w .altitude; airspeed = w .airspeed; «vertical_speed» = w .«vertical_speed»; roll = w .roll; pitch = w .pitch; heading = x }
+
+-- the number of a reading's kind
+abbrev pub kindOf : Reading → ℕ
+kindOf (Reading.Altitude x) = 0
+kindOf (Reading.Airspeed x) = 1
+kindOf (Reading.VerticalSpeed x) = 2
+kindOf (Reading.Roll x) = 3
+kindOf (Reading.Pitch x) = 4
+kindOf (Reading.Heading x) = 5
+
+-- the whole values with the one of this kind replaced (document 02, 2026-05)
+unfoldable pub storedWhole : Reading → Wholes → Wholes
+storedWhole r k = withWhole (kindOf r) (wholeNumber r) k
+
+-- x and y are the same number
+abbrev pub same : ℤ → ℤ → Bool
+same (pos x) (pos y) = eqb x y
+same (pos x) (negsuc y) = false
+same (negsuc x) (pos y) = false
+same (negsuc x) (negsuc y) = eqb x y
+
+-- the whole values of six floats, rounded afresh
+unfoldable pub wholesOf : Readings → Wholes
+wholesOf w = record {
+  altitude = wholeNumber (Reading.Altitude (w .altitude));
+  airspeed = wholeNumber (Reading.Airspeed (w .airspeed));
+  «vertical_speed» = wholeNumber (Reading.VerticalSpeed (w .«vertical_speed»));
+  roll = wholeNumber (Reading.Roll (w .roll));
+  pitch = wholeNumber (Reading.Pitch (w .pitch));
+  heading = wholeNumber (Reading.Heading (w .heading));
+}

@@ -1,5 +1,6 @@
--- What holds of a reading's whole value: two numbers are read otherwise than as the nearest integer, and no more. Document 01, 'Readings'; document 02, 2026-01.
--- Here are the statements; the proofs are in proofs/Wholes.antt.
+-- What holds of a reading's whole value: two numbers are read otherwise than as the nearest integer, and no more; and a sound bench keeps just the whole values of its
+-- floats. Document 01, 'Readings'; document 02, 2026-01 and 2026-05.
+-- Here are the statements; the proofs are in proofs/WholeLaws.antt.
 use mathlib.Core.Path.{_≡_}
 use mathlib.Core.Logic.{_↔_}
 use mathlib.Core.Bool.{Bool, true}
@@ -11,9 +12,11 @@ use Rattle.rounding.specs.declared.Whole.{Whole}
 use Rattle.rounding.specs.Whole.{signedOf, inAnswer, wholeOf}
 use Rattle.rounding.specs.Fraction.{IsNearest}
 use Rattle.bench.specs.declared.Reading.{Reading}
+use Rattle.bench.specs.declared.Bench.{Bench}
 use Rattle.bench.specs.Parts.{atRoll}
 use Rattle.bench.specs.Ranges.{within, clamped, readingRange, referenceRange}
-use Rattle.bench.specs.Readings.{floatOf, wholeReading, refusalOf, wholeNumber}
+use Rattle.bench.specs.Readings.{floatOf, wholeReading, refusalOf, wholeNumber, wholesOf}
+use Rattle.bench.specs.Sound.{kept, sound}
 
 -- x is a finite float, and z the integer nearest to its exact value, of two such the even one
 pub record Nearest (x : Float) (z : ℤ) : Type 0 where
@@ -49,6 +52,10 @@ pub record ReadingLaws : Type 0 where
   pub not-finite : (r : Reading) → wholeOf (floatOf r) ≡ Whole.NotFinite → wholeReading r ≡ Whole.NotFinite
   -- just the readings are accepted whose whole value lies within the range of their kind
   pub accepted : (r : Reading) → (refusalOf r ≡ 0) ↔ WholeInRange r
+  -- a number may stand beside a reading on a sound bench just where it is the reading's whole value and lies within the range
+  pub beside : (r : Reading) (z : ℤ) → (kept r z ≡ true) ↔ ((wholeReading r ≡ Whole.Value z) × (within (readingRange r) z ≡ true))
+  -- so the whole values of a sound bench are those that its floats have when rounded afresh
+  pub afresh : (b : Bench) → sound b ≡ true → b .wholes ≡ wholesOf (b .readings)
 
 -- ---- the numbers around the two, by computing; each float is read from its 64 bits, and the comments give it in decimal
 

@@ -4,7 +4,7 @@ use crate::ranges::Range;
 use crate::ranges::is_within;
 use rounding::Whole;
 ghost use mathlib.Core.Path.{_≡_};
-ghost use Rattle.bench.specs.Readings.{floatOf, wrapped, wholeReading, judged, wholeNumber};
+ghost use Rattle.bench.specs.Readings.{floatOf, wrapped, wholeReading, judged, numberOf};
 
 fn float_of(r: Reading) -> f64
     ensures { λ res. ⌜ res ≡ floatOf r ⌝ }
@@ -39,7 +39,7 @@ fn wrap(r: Reading, v: i32) -> i32
     }
 }
 
-// The whole value of a reading: the one place for it, for judging and for entry.
+// The whole value of a reading: the one place for it, for judging and for what is kept.
 pub fn whole_reading(r: Reading) -> Whole
     ensures { λ res. ⌜ res ≡ wholeReading r ⌝ }
 {
@@ -65,11 +65,10 @@ pub fn judge(range: Range, whole: Whole) -> u32
     }
 }
 
-// The whole value of a stored reading as a number. A sound bench holds none without one.
-pub fn whole_number(r: Reading) -> i32
-    ensures { λ res. ⌜ res ≡ wholeNumber r ⌝ }
+// A whole value as a number, and 0 where there is none: no such reading is accepted.
+pub fn number_of(whole: Whole) -> i32
+    ensures { λ res. ⌜ res ≡ numberOf whole ⌝ }
 {
-    let whole = whole_reading(r);
     match whole {
         Whole::NotFinite => 0,
         Whole::Beyond => 0,

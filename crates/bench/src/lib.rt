@@ -19,12 +19,13 @@ use parts::zero_references;
 use ranges::Range;
 use ranges::reference_in_range;
 ghost use mathlib.Core.Path.{_≡_};
+ghost use mathlib.Core.Bool.{_&&_};
 ghost use lib.Dec.{eqb};
 ghost use Rattle.bench.specs.Parts.{box};
 ghost use Rattle.bench.specs.Holds.{powerOn, startChannel};
 ghost use Rattle.bench.specs.Sides.{acts, otherSide};
 ghost use Rattle.bench.specs.Independent.{bothApproach, independentSound};
-ghost use Rattle.bench.specs.Readings.{wholeReading, judged};
+ghost use Rattle.bench.specs.Readings.{wholeReading, judged, same, wholeNumber};
 ghost use Rattle.bench.specs.Sound.{referencesSound, channelSound, readingsSound, sound};
 
 // What the two sides share and an event can change: the PF side, AP, the overspeed flag, and whether
@@ -73,6 +74,17 @@ pub struct Readings {
     pub heading: f64,
 }
 
+// Their whole values, in the same units as the ranges of the readings. The kinds are numbered 0 to 5 in
+// this order.
+pub struct Wholes {
+    pub altitude: i32,
+    pub airspeed: i32,
+    pub vertical_speed: i32,
+    pub roll: i32,
+    pub pitch: i32,
+    pub heading: i32,
+}
+
 // A reading of one of six kinds.
 pub enum Reading {
     Altitude(f64),
@@ -88,6 +100,7 @@ pub struct Bench {
     pub shared: Shared,
     pub counts: Counts,
     pub readings: Readings,
+    pub wholes: Wholes,
     pub left: Channel,
     pub right: Channel,
     pub left_inbox: Channel,
@@ -130,6 +143,14 @@ pub fn power_on() -> Bench
             roll: 0.0,
             pitch: 0.0,
             heading: 0.0,
+        },
+        wholes: Wholes {
+            altitude: 0,
+            airspeed: 90,
+            vertical_speed: 0,
+            roll: 0,
+            pitch: 0,
+            heading: 0,
         },
         left: start,
         right: start,
@@ -201,26 +222,35 @@ fn box_sound(b: Bench, number: u32) -> bool
     coherent & in_range
 }
 
-// Whether a reading would be accepted whose kind has this range.
-fn is_valid(range: Range, r: Reading) -> bool
-    ensures { λ res. ⌜ res ≡ eqb (judged range (wholeReading r)) 0 ⌝ }
+fn is_same(x: i32, y: i32) -> bool
+    ensures { λ res. ⌜ res ≡ same x y ⌝ }
 {
-    let whole = feed::whole_reading(r);
-    feed::judge(range, whole) == 0
+    x == y
 }
 
-fn readings_sound(w: Readings) -> bool
-    ensures { λ res. ⌜ res ≡ readingsSound w ⌝ }
+// Whether a reading would be accepted whose kind has this range, and its whole value is the one kept.
+fn is_kept(range: Range, r: Reading, kept: i32) -> bool
+    ensures { λ res. ⌜ res ≡ (eqb (judged range (wholeReading r)) 0 && same (wholeNumber r) kept) ⌝ }
 {
-    let altitude = is_valid(ranges::ALTITUDE, Reading::Altitude(w.altitude));
-    let airspeed = is_valid(ranges::AIRSPEED, Reading::Airspeed(w.airspeed));
-    let vertical_speed = is_valid(
+    let whole = feed::whole_reading(r);
+    let refusal = feed::judge(range, whole);
+    let number = feed::number_of(whole);
+    (refusal == 0) & is_same(number, kept)
+}
+
+fn readings_sound(w: Readings, k: Wholes) -> bool
+    ensures { λ res. ⌜ res ≡ readingsSound w k ⌝ }
+{
+    let altitude = is_kept(ranges::ALTITUDE, Reading::Altitude(w.altitude), k.altitude);
+    let airspeed = is_kept(ranges::AIRSPEED, Reading::Airspeed(w.airspeed), k.airspeed);
+    let vertical_speed = is_kept(
         ranges::VERTICAL_SPEED,
         Reading::VerticalSpeed(w.vertical_speed),
+        k.vertical_speed,
     );
-    let roll = is_valid(ranges::ROLL, Reading::Roll(w.roll));
-    let pitch = is_valid(ranges::PITCH, Reading::Pitch(w.pitch));
-    let heading = is_valid(ranges::HEADING, Reading::Heading(w.heading));
+    let roll = is_kept(ranges::ROLL, Reading::Roll(w.roll), k.roll);
+    let pitch = is_kept(ranges::PITCH, Reading::Pitch(w.pitch), k.pitch);
+    let heading = is_kept(ranges::HEADING, Reading::Heading(w.heading), k.heading);
     altitude & airspeed & vertical_speed & roll & pitch & heading
 }
 
@@ -230,11 +260,12 @@ pub fn is_sound(b: Bench) -> bool
 {
     let shared = b.shared;
     let readings = b.readings;
+    let wholes = b.wholes;
     let left = box_sound(b, 0);
     let right = box_sound(b, 1);
     let left_inbox = box_sound(b, 2);
     let right_inbox = box_sound(b, 3);
-    let feed = readings_sound(readings);
+    let feed = readings_sound(readings, wholes);
     let independent = independent_sound(b);
     (shared.pf <= 1) & left & right & left_inbox & right_inbox & feed & independent
 }

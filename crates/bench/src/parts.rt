@@ -6,9 +6,10 @@ use crate::Counts;
 use crate::Readings;
 use crate::References;
 use crate::Shared;
+use crate::Wholes;
 use modes::ModeSet;
 ghost use mathlib.Core.Path.{_≡_};
-ghost use Rattle.bench.specs.Parts.{withShared, withCounts, withReadings, box, withBox, withFd, withSet, withReferences, withPf, reference, withReference, zeroReferences, countOf, withCount};
+ghost use Rattle.bench.specs.Parts.{withShared, withCounts, withReadings, withWholes, box, withBox, withFd, withSet, withReferences, withPf, reference, withReference, zeroReferences, countOf, withCount, withWhole};
 ghost use Rattle.bench.specs.Independent.{withOperation};
 ghost use Rattle.bench.specs.Sides.{inboxOf};
 
@@ -48,6 +49,14 @@ pub fn with_readings(b: Bench, readings: Readings) -> Bench
 {
     let mut next = b;
     next.readings = readings;
+    next
+}
+
+pub fn with_wholes(b: Bench, wholes: Wholes) -> Bench
+    ensures { λ res. ⌜ res ≡ withWholes wholes b ⌝ }
+{
+    let mut next = b;
+    next.wholes = wholes;
     next
 }
 
@@ -233,6 +242,35 @@ pub fn with_count(c: Counts, knob: u32, n: u8) -> Counts
         }
         3 => {
             next.heading = n;
+        }
+        _ => {}
+    }
+    next
+}
+
+// The whole values with another number for a kind; past kind 5 there is none to replace.
+pub fn with_whole(w: Wholes, kind: u32, x: i32) -> Wholes
+    ensures { λ res. ⌜ res ≡ withWhole kind x w ⌝ }
+{
+    let mut next = w;
+    match kind {
+        0 => {
+            next.altitude = x;
+        }
+        1 => {
+            next.airspeed = x;
+        }
+        2 => {
+            next.vertical_speed = x;
+        }
+        3 => {
+            next.roll = x;
+        }
+        4 => {
+            next.pitch = x;
+        }
+        5 => {
+            next.heading = x;
         }
         _ => {}
     }

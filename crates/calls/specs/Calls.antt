@@ -1,5 +1,5 @@
 -- The calls as data: which are turned away, in what order, what the others do, and what each answers. Document 01, 'Event words', 'Sends, refreshes, knobs', 'Readings',
--- 'Display' and 'Who can be turned away'; document 02, 2026-03, for bit 20 and for what ends independent operation.
+-- 'Display' and 'Who can be turned away'; document 02, 2026-03, for bit 20 and for what ends independent operation, and 2026-05 for whole values.
 use mathlib.Core.Bool.{cond}
 use Prim.Native.Nat.{ℕ}
 use lib.Dec.{eqb, leb}
@@ -7,8 +7,8 @@ use lib.Count.{trailingZeros}
 use Rattle.modes.specs.Events.{eventAt}
 use Rattle.bench.specs.declared.Reading.{Reading}
 use Rattle.bench.specs.declared.Bench.{Bench}
-use Rattle.bench.specs.Parts.{withReadings}
-use Rattle.bench.specs.Readings.{refusalOf, stored}
+use Rattle.bench.specs.Parts.{withReadings, withWholes}
+use Rattle.bench.specs.Readings.{refusalOf, stored, storedWhole}
 use Rattle.bench.specs.Independent.{ended}
 use Rattle.bench.specs.Sound.{sound}
 use Rattle.steps.specs.Steps.{acted}
@@ -61,9 +61,9 @@ refusal b c = cond (sound b) (ownRefusal c) 1
 
 -- ---- what an accepted call does
 
--- an accepted reading takes the place of the last one of its kind
+-- an accepted reading takes the place of the last one of its kind, and its whole value that of the last one's
 unfoldable pub received : Reading → Bench → Bench
-received r b = withReadings (stored r (b .readings)) b
+received r b = withWholes (storedWhole r (b .wholes)) (withReadings (stored r (b .readings)) b)
 
 -- a word stands for the event of its lowest set bit, and 0 for none; a display changes nothing
 abbrev pub done : Call → Bench → Bench

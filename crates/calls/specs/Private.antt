@@ -4,7 +4,8 @@ use Prim.Native.Nat.{ℕ}
 use lib.Dec.{eqb}
 use Rattle.bench.specs.declared.Bench.{Bench}
 use Rattle.bench.specs.declared.Readings.{Readings}
-use Rattle.bench.specs.Parts.{withReadings}
+use Rattle.bench.specs.declared.Wholes.{Wholes}
+use Rattle.bench.specs.Parts.{withReadings, withWholes}
 use Rattle.bench.specs.Independent.{ended}
 use Rattle.bench.specs.Sound.{sound}
 use Rattle.calls.specs.declared.answers.Answer.{Answer}
@@ -13,6 +14,6 @@ use Rattle.calls.specs.declared.answers.Answer.{Answer}
 abbrev pub accepting : Bench → Answer
 accepting b = record { refusal = 0; bench = ended b }
 
--- the answer to a reading with this refusal of its own, which would leave the readings w
-unfoldable pub receivedAs : ℕ → Readings → Bench → Answer
-receivedAs own w b = let n = cond (sound b) own 1 in record { refusal = n; bench = cond (eqb n 0) (ended (withReadings w b)) b }
+-- the answer to a reading with this refusal of its own, which would leave the readings w and the whole values k
+unfoldable pub receivedAs : ℕ → Readings → Wholes → Bench → Answer
+receivedAs own w k b = let n = cond (sound b) own 1 in record { refusal = n; bench = cond (eqb n 0) (ended (withWholes k (withReadings w b))) b }

@@ -9,6 +9,7 @@ use answers::DisplayAnswer;
 use answers::EventAnswer;
 use bench::Bench;
 use bench::Readings;
+use bench::Wholes;
 use bench::parts::box_of;
 use bench::parts::inbox_of;
 use bench::parts::with_box;
@@ -109,47 +110,58 @@ pub fn turn(b: Bench, knob: u32, new: u8) -> Answer
     accept(knobs::turn_to(b, knob, new))
 }
 
-// The answer to a reading with this range and this whole value, which would leave these readings.
-fn receive(b: Bench, range: Range, whole: Whole, next: Readings) -> Answer
-    ensures { λ res. ⌜ res ≡ receivedAs (judged range whole) next b ⌝ }
+// The answer to a reading with this range and this whole value, which would leave these readings and these
+// whole values.
+fn receive(b: Bench, range: Range, whole: Whole, readings: Readings, wholes: Wholes) -> Answer
+    ensures { λ res. ⌜ res ≡ receivedAs (judged range whole) readings wholes b ⌝ }
 {
     let refusal = refusal_of(b, bench::feed::judge(range, whole));
     if refusal != 0 {
         return Answer { refusal, bench: b };
     }
-    accept(bench::parts::with_readings(b, next))
+    let next = bench::parts::with_readings(b, readings);
+    accept(bench::parts::with_wholes(next, wholes))
 }
 
-// A reading of the air data feed. Each kind has its range and its field.
+// A reading of the air data feed. Each kind has its range, and its field among the floats and among the
+// whole values.
 pub fn reading(b: Bench, r: bench::Reading) -> Answer
     ensures { λ res. ⌜ res ≡ answer b (Call.reading r) ⌝ }
 {
     let whole = bench::feed::whole_reading(r);
+    let number = bench::feed::number_of(whole);
     let mut next = b.readings;
+    let mut wholes = b.wholes;
     match r {
         bench::Reading::Altitude(x) => {
             next.altitude = x;
-            receive(b, ranges::ALTITUDE, whole, next)
+            wholes.altitude = number;
+            receive(b, ranges::ALTITUDE, whole, next, wholes)
         }
         bench::Reading::Airspeed(x) => {
             next.airspeed = x;
-            receive(b, ranges::AIRSPEED, whole, next)
+            wholes.airspeed = number;
+            receive(b, ranges::AIRSPEED, whole, next, wholes)
         }
         bench::Reading::VerticalSpeed(x) => {
             next.vertical_speed = x;
-            receive(b, ranges::VERTICAL_SPEED, whole, next)
+            wholes.vertical_speed = number;
+            receive(b, ranges::VERTICAL_SPEED, whole, next, wholes)
         }
         bench::Reading::Roll(x) => {
             next.roll = x;
-            receive(b, ranges::ROLL, whole, next)
+            wholes.roll = number;
+            receive(b, ranges::ROLL, whole, next, wholes)
         }
         bench::Reading::Pitch(x) => {
             next.pitch = x;
-            receive(b, ranges::PITCH, whole, next)
+            wholes.pitch = number;
+            receive(b, ranges::PITCH, whole, next, wholes)
         }
         bench::Reading::Heading(x) => {
             next.heading = x;
-            receive(b, ranges::HEADING, whole, next)
+            wholes.heading = number;
+            receive(b, ranges::HEADING, whole, next, wholes)
         }
     }
 }

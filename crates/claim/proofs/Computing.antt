@@ -5,12 +5,12 @@ use Rattle.rounding.specs.Whole.{wholeOf}
 use Rattle.modes.specs.Sets.{engaged, armed, cleared, once, coherent, put, disarm, arm, drop, clear, engage}
 use Rattle.modes.specs.Numbers.{armedSum, modeLamps}
 use Rattle.modes.specs.Events.{overspeed, goAround, clearArmed, takeBasic, clearNavigation, capture, captureVappr, track, switch, switchNav, switchAppr, switchFlc}
-use Rattle.bench.specs.Parts.{withShared, withCounts, withReadings, withBox, withFd, withSet, withReferences, withReference, withCount}
+use Rattle.bench.specs.Parts.{withShared, withCounts, withReadings, withWholes, withBox, withFd, withSet, withReferences, withReference, withCount, withWhole}
 use Rattle.bench.specs.Sides.{acts}
 use Rattle.bench.specs.Independent.{bothApproach, independentSound, withOperation, begun, ended}
 use Rattle.bench.specs.Holds.{startChannel, powerOn}
 use Rattle.bench.specs.Ranges.{referenceRange}
-use Rattle.bench.specs.Readings.{wholeReading, refusalOf, wholeNumber, stored}
+use Rattle.bench.specs.Readings.{wholeReading, refusalOf, wholeNumber, stored, storedWhole}
 use Rattle.bench.specs.Sound.{referencesSound, channelSound, readingsSound, sound}
 use Rattle.steps.specs.Entry.{loaded, entry, enter, settled}
 use Rattle.steps.specs.Steps.{sharedAfter, asksFor, setsFd, fdAfter, withFdAfter, firstStep, isOn, secondStep, thirdStep, laterSteps, threeSteps, acted}
@@ -30,11 +30,11 @@ changes = tt
 
 -- the parts of a bench, its readings and its soundness
 unfoldable parts : Unit {0}
-unfolding withShared withCounts withReadings withBox withFd withSet withReferences withReference withCount acts startChannel powerOn bothApproach independentSound withOperation begun ended
+unfolding withShared withCounts withReadings withWholes withBox withFd withSet withReferences withReference withCount withWhole acts startChannel powerOn bothApproach independentSound withOperation begun ended
 parts = tt
 
 unfoldable benches : Unit {0}
-unfolding ofBits wholeOf referenceRange wholeReading refusalOf wholeNumber stored referencesSound channelSound readingsSound sound
+unfolding ofBits wholeOf referenceRange wholeReading refusalOf wholeNumber stored storedWhole referencesSound channelSound readingsSound sound
 benches = tt
 
 -- the steps of an event, and knobs

@@ -15,7 +15,7 @@ use Rattle.modes.proofs.Laws.{mode-laws}
 use Rattle.modes.specs.Events.{numbered, eventAt, eventNumber, isNone, isIndependent, lineOf}
 use Rattle.bench.specs.declared.Bench.{Bench}
 use Rattle.bench.specs.declared.ranges.Range.{Range}
-use Rattle.bench.specs.Parts.{withShared, withReadings, withBox, withFd, withSet, withReferences}
+use Rattle.bench.specs.Parts.{withShared, withReadings, withWholes, withBox, withFd, withSet, withReferences}
 use Rattle.bench.specs.Ranges.{within, readingRange}
 use Rattle.bench.specs.Readings.{wholeReading, judged, refusalOf}
 use Rattle.bench.specs.Sides.{otherSide, inboxOf, side, inbox, acts}
@@ -219,7 +219,7 @@ send-step t b e = record {
 
 -- what an accepted call does
 done-step : (c : Call) (b : Bench) → accepted c ≡ true → Step c b (done c b)
-unfolding received withReadings
+unfolding received withReadings withWholes
 done-step (event word) b e =
     let n = trailingZeros 32 word in
     record { pf = rw e (acted-pf n b); inboxes = λ s hs k. acted-inbox n b s hs; passive = λ s hs p k l. acted-passive n b s hs p (and-rest _ _ _ e l); off = λ k h. acted-off n b (and-rest _ _ _ e k) h }

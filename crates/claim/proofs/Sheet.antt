@@ -7,7 +7,7 @@ pub sheet : Sheet
 unfolding rules
 sheet = record {
   case1 = (refl, refl, refl);
-  case2 = (refl, refl, refl, refl);
+  case2 = (refl, refl, refl, refl, refl);
   case3 = (refl, refl);
   case4 = (refl, refl, refl, refl, refl, refl);
   case5 = (refl, refl, refl, refl, refl, refl, refl);

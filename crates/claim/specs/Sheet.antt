@@ -1,4 +1,4 @@
--- Document 01, 'Bench sheet', with cases 2 and 10 as document 02 has them: its twelve cases as one claim, about the whole values, the rotations and the rules. A case
+-- Document 01, 'Bench sheet', with cases 2 and 10 as document 02 has them, and what case 2 keeps by 2026-05: its twelve cases as one claim, about the whole values, the rotations and the rules. A case
 -- that is a list of calls begins at power-on. Here are definitions and the statement only; the proof is in proofs/Sheet.antt.
 use mathlib.Core.Path.{_≡_}
 use mathlib.Core.Bool.{false}
@@ -115,9 +115,10 @@ pub record Sheet : Type 0 where
   -- three ties go to the even integer: 12.5 to 12, 13.5 to 14 and -0.5 to 0
   pub case1 : (wholeOf (bits 0x4029_0000_0000_0000) ≡ Whole.Value (pos 12)) × (wholeOf (bits 0x402b_0000_0000_0000) ≡ Whole.Value (pos 14))
       × (wholeOf (bits 0xbfe0_0000_0000_0000) ≡ Whole.Value (pos 0))
-  -- headings of 359.25 and 359.5 are both accepted, as 359 and, by document 02, 2026-01, as 0; the float that stays is 359.5
+  -- headings of 359.25 and 359.5 are both accepted, as 359 and, by document 02, 2026-01, as 0; the float that stays is 359.5, and beside it 0
   pub case2 : (replies powerOn two ≡ plain 0 ∷ plain 0 ∷ []) × (wholeReading (Reading.Heading (bits 0x4076_7400_0000_0000)) ≡ Whole.Value (pos 359))
       × (wholeReading (Reading.Heading (bits 0x4076_7800_0000_0000)) ≡ Whole.Value (pos 0)) × (after powerOn two .readings .heading ≡ bits 0x4076_7800_0000_0000)
+      × (after powerOn two .wholes .heading ≡ pos 0)
   -- an altitude of 56,000.5 is accepted, since it rounds to 56,000, the end of the range; 56,001 is refused with 6
   pub case3 : (replies powerOn three ≡ plain 0 ∷ plain 6 ∷ []) × (wholeOf (bits 0x40eb_5810_0000_0000) ≡ Whole.Value (pos 56000))
   -- the rotation from 250 to 3 is 9, and -9 the other way; half a turn, between 0 and 128, is -128 either way

@@ -16,6 +16,7 @@ use bench::Counts;
 use bench::Readings;
 use bench::References;
 use bench::Shared;
+use bench::Wholes;
 use bench::parts::box_of;
 use bench::parts::reference_at;
 use calls::answers::Display;
@@ -111,6 +112,17 @@ fn put_readings(out: &mut [u8], waiting: usize, r: Readings) -> usize {
     put_next_float(out, at, r.heading)
 }
 
+fn put_three(out: &mut [u8], waiting: usize, x: i32, y: i32, z: i32) -> usize {
+    let mut at = put_next_signed(out, waiting, x);
+    at = put_next_signed(out, at, y);
+    put_next_signed(out, at, z)
+}
+
+fn put_wholes(out: &mut [u8], waiting: usize, k: Wholes) -> usize {
+    let at = put_three(out, waiting, k.altitude, k.airspeed, k.vertical_speed);
+    put_three(out, at, k.roll, k.pitch, k.heading)
+}
+
 // The sides and their inboxes.
 fn put_boxes(out: &mut [u8], waiting: usize, b: Bench) -> usize {
     let mut at = put_channel(out, waiting, box_of(b, 0));
@@ -130,10 +142,12 @@ fn put_bench(out: &mut [u8], waiting: usize, b: Bench) -> usize {
     let shared = b.shared;
     let counts = b.counts;
     let readings = b.readings;
+    let wholes = b.wholes;
     let mut at = put_text(out, waiting, b"bench");
     at = put_shared(out, at, shared);
     at = put_counts(out, at, counts);
     at = put_readings(out, at, readings);
+    at = put_wholes(out, at, wholes);
     at = put_boxes(out, at, b);
     put(out, at, b'\n')
 }

@@ -33,7 +33,7 @@ fn put_damage_reason(out: &mut [u8], waiting: usize, wrong: u32) -> usize {
         scripts::NO_DAMAGE => put_text(
             out,
             waiting,
-            b"damage takes left, right, left-inbox, right-inbox, reading, pf or independent",
+            b"damage takes left, right, left-inbox, right-inbox, reading, whole, pf or independent",
         ),
         scripts::NO_PF => put_text(out, waiting, b"N is a number from 0 to 255"),
         scripts::NO_REFERENCE => put_text(

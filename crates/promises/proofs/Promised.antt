@@ -5,11 +5,13 @@ use Rattle.rotation.proofs.Laws.{rotation-laws}
 use Rattle.rotation.proofs.Sheet.{sheet-knobs}
 use Rattle.modes.proofs.Laws.{mode-laws}
 use Rattle.bench.proofs.Replaced.{part-laws}
-use Rattle.bench.proofs.Wholes.{reading-laws, reading-examples}
+use Rattle.bench.proofs.WholeLaws.{reading-laws, reading-examples}
 use Rattle.codes.proofs.Laws.{code-laws}
 use Rattle.frames.proofs.Laws.{frame-laws, frame-examples}
+use Rattle.steps.proofs.Rounded.{entry-laws}
 use Rattle.soundness.proofs.Kept.{keeps-sound, laws-in-range}
 use Rattle.soundness.proofs.Lowest.{names}
+use Rattle.soundness.proofs.Feed.{feed-laws}
 use Rattle.claim.proofs.Claimed.{claims}
 use Rattle.claim.proofs.Reached.{reached}
 use Rattle.claim.proofs.Independent.{independent-laws}
@@ -42,6 +44,8 @@ promises = record {
   part-laws = part-laws;
   reading-laws = reading-laws;
   reading-examples = reading-examples;
+  feed-laws = feed-laws;
+  entry-laws = entry-laws;
   code-laws = code-laws;
   frame-laws = frame-laws;
   frame-examples = frame-examples;

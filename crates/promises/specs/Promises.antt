@@ -17,9 +17,11 @@ use Rattle.bench.specs.Wholes.{ReadingLaws, ReadingExamples}
 use Rattle.bench.specs.Sound.{sound}
 use Rattle.codes.specs.Laws.{CodeLaws}
 use Rattle.frames.specs.Laws.{FrameLaws, FrameExamples}
+use Rattle.steps.specs.Laws.{EntryLaws}
 use Rattle.calls.specs.Calls.{Call}
 use Rattle.soundness.specs.Kept.{KeepsSound, LawsInRange}
 use Rattle.soundness.specs.Lowest.{NamesLowest}
+use Rattle.soundness.specs.Feed.{FeedLaws}
 use Rattle.claim.specs.Claim.{Claims}
 use Rattle.claim.specs.Reached.{Reached}
 use Rattle.claim.specs.Independent.{IndependentLaws}
@@ -56,9 +58,12 @@ pub record Promises : Type 2 where
   -- 107 coherent sets, changes that keep coherence, events and their numbers
   pub mode-laws : ModeLaws
   pub part-laws : PartLaws
-  -- a reading's whole value is its nearest integer, but for heading 360 and roll 180, and is what it is accepted by
+  -- a reading's whole value is its nearest integer, but for heading 360 and roll 180, is what it is accepted by, and is kept beside it on a sound bench
   pub reading-laws : ReadingLaws
   pub reading-examples : ReadingExamples
+  -- an accepted reading stores both, and nothing else changes either; so entry from what is kept is entry from the rounded reading
+  pub feed-laws : FeedLaws
+  pub entry-laws : EntryLaws
   -- set codes, and frames: what is written is read back, from one frame, as a send would copy it
   pub code-laws : CodeLaws
   pub frame-laws : FrameLaws

@@ -19,11 +19,11 @@ use Rattle.numerals.proofs.Numerals.{number-fits}
 use Rattle.scripts.specs.declared.Command.{Command}
 use Rattle.scripts.specs.declared.places.Named.{Named}
 use Rattle.scripts.specs.declared.damage.Given.{Given}
-use Rattle.scripts.specs.Commands.{tooMany, noCommand, noWord, noSide, noKnobNumber, noCount, noKnob, noClicks, noSwitch, noSignal, noWatch, noDamage, noPf, noReference, noSigned, noSet, noLength, noStart, noPairs, noFlag}
+use Rattle.scripts.specs.Commands.{tooMany, noCommand, noWord, noSide, noKnobNumber, noCount, noKnob, noClicks, noSwitch, noSignal, noWatch, noKind, noDamage, noPf, noReference, noSigned, noSet, noLength, noStart, noPairs, noFlag}
 use Rattle.scripts.specs.Commands.{commandNames, watchNames, damageNames, partNames, absent, endsAt, ifNumber, ifReading, ifSet, ifSigned, ifStart}
-use Rattle.scripts.specs.Commands.{numberAt, sideAt, knobAt, readingAt, startAt, figureAt, setBy, isSwitch, isSignal, eventNamed}
+use Rattle.scripts.specs.Commands.{numberAt, sideAt, knobAt, kindAt, readingAt, startAt, figureAt, setBy, isSwitch, isSignal, eventNamed}
 use Rattle.scripts.specs.Commands.{eventOf, withSide, turnBy, turnOf, clicksBy, clicksOf, eventIf, watchBy, areaOfLength, pokeBy, pokeOf, writeBy, writeOf, readOf}
-use Rattle.scripts.specs.Commands.{damagePf, damageIndependent, damageSet, damageReference, damagePart, damageBy, commandBy, commandIn, textOf, commandOf, pairsOf}
+use Rattle.scripts.specs.Commands.{damagePf, damageIndependent, damageSet, damageNumber, damagePart, damageWhole, damageBy, commandBy, commandIn, textOf, commandOf, pairsOf}
 use Rattle.scripts.specs.Laws.{LineLaws}
 
 -- an area of at most 2,048 bytes, and a poke with pairs in word 2
@@ -47,6 +47,7 @@ meets text (Command.DamagePf n) = true
 meets text (Command.DamageReading r) = true
 meets text (Command.DamageSet n set) = true
 meets text (Command.DamageReference n place x) = true
+meets text (Command.DamageWhole kind x) = true
 meets text (Command.DamageIndependent on) = true
 meets text (Command.Area n) = leb n 2048
 meets text (Command.Poke start) = arePairs (wordOf text 2)
@@ -127,22 +128,29 @@ module _ (text : List ℕ) where
   unfolding watchBy
   watch n = either (ltb n 2) (λ t. ends 2 (plain (Command.Watch (eqb n 1)) refl)) (wrong noWatch)
 
+  signed-number : (part place : ℕ) → Meets text (damageNumber part place text)
+  unfolding damageNumber
+  signed-number part place =
+      signed (signedIn (wordOf text 3))
+      (λ z. ends 4 (either (eqb part 4) (λ t. plain (Command.DamageWhole place z) refl) (plain (Command.DamageReference part place z) refl)))
+
   part : (what box : ℕ) → Meets text (damagePart what box text)
-  unfolding damagePart damageReference damageSet
+  unfolding damagePart damageSet
   part what box =
-      either (ltb what 7) (λ t. signed (signedIn (wordOf text 3)) (λ z. ends 4 (plain (Command.DamageReference box what z) refl)))
+      either (ltb what 7) (λ t. signed-number box what)
       (either (eqb what 7)
       (λ t. set (setBy (figureAt text 3) (figureAt text 4) (figureAt text 5) (figureAt text 6)) (λ s. ends 7 (plain (Command.DamageSet box s) refl)))
       (wrong noReference))
 
   damage : (what : ℕ) → Meets text (damageBy what text)
-  unfolding damageBy damagePf damageIndependent
+  unfolding damageBy damageWhole damagePf damageIndependent
   damage what =
       either (ltb what 4) (λ t. part (lookupOf (wordOf text 2) partNames 8) what)
-      (either (eqb what 4) (λ t. reading (readingAt text 2) (λ r. ends 4 (plain (Command.DamageReading r) refl)))
-      (either (eqb what 5) (λ t. number (numberAt text 2 255) noPf (λ n e. ends 3 (plain (Command.DamagePf n) refl)))
-      (either (eqb what 6) (λ t. number (numberAt text 2 1) noFlag (λ n e. ends 3 (plain (Command.DamageIndependent (eqb n 1)) refl)))
-      (wrong noDamage))))
+      (either (eqb what 4) (λ t. either (ltb (kindAt text 2) 6) (λ t. signed-number 4 (kindAt text 2)) (wrong noKind))
+      (either (eqb what 5) (λ t. reading (readingAt text 2) (λ r. ends 4 (plain (Command.DamageReading r) refl)))
+      (either (eqb what 6) (λ t. number (numberAt text 2 255) noPf (λ n e. ends 3 (plain (Command.DamagePf n) refl)))
+      (either (eqb what 7) (λ t. number (numberAt text 2 1) noFlag (λ n e. ends 3 (plain (Command.DamageIndependent (eqb n 1)) refl)))
+      (wrong noDamage)))))
 
   area : Meets text (areaOfLength text)
   unfolding areaOfLength
@@ -176,7 +184,7 @@ module _ (text : List ℕ) where
       (either (eqb command 12) (λ t. ends 1 (plain Command.Panel refl))
       (either (eqb command 13) (λ t. ends 1 (plain Command.Help refl))
       (either (eqb command 14) (λ t. watch (lookupOf (wordOf text 1) watchNames 2))
-      (either (eqb command 15) (λ t. damage (lookupOf (wordOf text 1) damageNames 7))
+      (either (eqb command 15) (λ t. damage (lookupOf (wordOf text 1) damageNames 8))
       (either (eqb command 16) (λ t. area)
       (either (eqb command 17) (λ t. poke)
       (either (eqb command 18) (λ t. write)

@@ -122,9 +122,9 @@ kindNames = bytes "altitude airspeed vertical-speed roll pitch heading"
 unfoldable pub watchNames : List ℕ
 watchNames = bytes "off on"
 
--- boxes, and the three other things that can be damaged
+-- boxes, whole values, and the three other things that can be damaged
 unfoldable pub damageNames : List ℕ
-damageNames = bytes "left right left-inbox right-inbox reading pf independent"
+damageNames = bytes "left right left-inbox right-inbox whole reading pf independent"
 
 -- references, and the set
 unfoldable pub partNames : List ℕ
@@ -233,11 +233,15 @@ abbrev pub readingBy : ℕ → Value → Named
 readingBy kind (Value.Is x) = Named.Is (kindBy kind x)
 readingBy kind Value.Wrong = Named.Wrong noValue
 
+-- the kind that word n names; 6 where it names none
+unfoldable pub kindAt : List ℕ → ℕ → ℕ
+kindAt text n = lookupOf (wordOf text n) kindNames 6
+
 -- the words n and n + 1 as a kind and its value, or what is wrong with them
 unfoldable pub readingAt : List ℕ → ℕ → Named
 readingAt text n =
-    cond (ltb (lookupOf (wordOf text n) kindNames 6) 6)
-    (readingBy (lookupOf (wordOf text n) kindNames 6) (valueIn (wordOf text (n + 1))))
+    cond (ltb (kindAt text n) 6)
+    (readingBy (kindAt text n) (valueIn (wordOf text (n + 1))))
     (Named.Wrong noKind)
 
 abbrev pub ifReading : Named → (Reading → Command) → Command
@@ -291,25 +295,34 @@ abbrev pub ifSigned : Signed → (ℤ → Command) → Command
 ifSigned (Signed.Is x) ask = ask x
 ifSigned Signed.Wrong ask = Command.Wrong noSigned
 
--- damage BOX REFERENCE N, a signed number of 32 bits
-unfoldable pub damageReference : ℕ → ℕ → List ℕ → Command
-damageReference box reference text = ifSigned (signedIn (wordOf text 3)) (λ x. endsAt text 4 (Command.DamageReference box reference x))
+-- a signed number goes to a reference of a box, 0 to 3, or, as part 4, to the whole value of a kind
+abbrev pub numberBy : ℕ → ℕ → ℤ → Command
+numberBy part place x = cond (eqb part 4) (Command.DamageWhole place x) (Command.DamageReference part place x)
+
+-- damage BOX REFERENCE N and damage whole KIND N, a signed number of 32 bits
+unfoldable pub damageNumber : ℕ → ℕ → List ℕ → Command
+damageNumber part place text = ifSigned (signedIn (wordOf text 3)) (λ x. endsAt text 4 (numberBy part place x))
 
 -- by the number of a name of partNames
 unfoldable pub damagePart : ℕ → ℕ → List ℕ → Command
 damagePart what box text =
-    cond (ltb what 7) (damageReference box what text)
+    cond (ltb what 7) (damageNumber box what text)
     (cond (eqb what 7) (damageSet box text)
     (Command.Wrong noReference))
+
+-- the whole value of a kind
+unfoldable pub damageWhole : List ℕ → Command
+damageWhole text = cond (ltb (kindAt text 2) 6) (damageNumber 4 (kindAt text 2) text) (Command.Wrong noKind)
 
 -- by the number of a name of damageNames
 unfoldable pub damageBy : ℕ → List ℕ → Command
 damageBy what text =
     cond (ltb what 4) (damagePart (lookupOf (wordOf text 2) partNames 8) what text)
-    (cond (eqb what 4) (ifReading (readingAt text 2) (λ r. endsAt text 4 (Command.DamageReading r)))
-    (cond (eqb what 5) (damagePf text)
-    (cond (eqb what 6) (damageIndependent text)
-    (Command.Wrong noDamage))))
+    (cond (eqb what 4) (damageWhole text)
+    (cond (eqb what 5) (ifReading (readingAt text 2) (λ r. endsAt text 4 (Command.DamageReading r)))
+    (cond (eqb what 6) (damagePf text)
+    (cond (eqb what 7) (damageIndependent text)
+    (Command.Wrong noDamage)))))
 
 -- ---- the bus area
 
@@ -360,7 +373,7 @@ commandBy command text =
     (cond (eqb command 12) (endsAt text 1 Command.Panel)
     (cond (eqb command 13) (endsAt text 1 Command.Help)
     (cond (eqb command 14) (watchBy (lookupOf (wordOf text 1) watchNames 2) text)
-    (cond (eqb command 15) (damageBy (lookupOf (wordOf text 1) damageNames 7) text)
+    (cond (eqb command 15) (damageBy (lookupOf (wordOf text 1) damageNames 8) text)
     (cond (eqb command 16) (areaOfLength text)
     (cond (eqb command 17) (pokeOf text)
     (cond (eqb command 18) (writeOf text)

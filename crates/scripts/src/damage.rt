@@ -2,16 +2,18 @@
 ghost use mathlib.Core.Path.{_≡_};
 ghost use Rattle.words.specs.Words.{wordOf, lookupOf};
 ghost use Rattle.scripts.specs.Commands.{endsAt, readingAt, ifReading, figureAt, givesOff, givesOn, setBy};
-ghost use Rattle.scripts.specs.Commands.{damageNames, partNames, damagePf, damageIndependent, damageSet, damageReference, damagePart, damageBy};
+ghost use Rattle.scripts.specs.Commands.{damageNames, partNames, damagePf, damageIndependent, damageSet, numberBy, damageNumber, damagePart, damageWhole, damageBy};
 use crate::Command;
 use crate::NO_DAMAGE;
 use crate::NO_FLAG;
+use crate::NO_KIND;
 use crate::NO_PF;
 use crate::NO_REFERENCE;
 use crate::NO_SET;
 use crate::NO_SIGNED;
 use crate::places::Named;
 use crate::places::ends_at;
+use crate::places::kind_at;
 use crate::places::number_at;
 use crate::places::reading_at;
 use modes::ModeSet;
@@ -108,12 +110,22 @@ fn damage_set(text: &[u8], part: u32) -> Command
     }
 }
 
-fn damage_reference(text: &[u8], part: u32, reference: u32) -> Command
-    ensures { λ res. ⌜ res ≡ damageReference part reference (now (text .entry)) ⌝ }
+// A signed number goes to a reference of a box, or, as part 4, to the whole value of a kind.
+fn number_by(part: u32, place: u32, x: i32) -> Command
+    ensures { λ res. ⌜ res ≡ numberBy part place x ⌝ }
+{
+    match part {
+        4 => Command::DamageWhole(place, x),
+        _ => Command::DamageReference(part, place, x),
+    }
+}
+
+fn damage_number(text: &[u8], part: u32, place: u32) -> Command
+    ensures { λ res. ⌜ res ≡ damageNumber part place (now (text .entry)) ⌝ }
 {
     let number = numerals::signed(words::word(text, 3));
     match number {
-        Signed::Is(x) => ends_at(text, 4, Command::DamageReference(part, reference, x)),
+        Signed::Is(x) => ends_at(text, 4, number_by(part, place, x)),
         Signed::Wrong => Command::Wrong(NO_SIGNED),
     }
 }
@@ -123,7 +135,7 @@ fn damage_part(what: usize, part: u32, text: &[u8]) -> Command
     ensures { λ res. ⌜ res ≡ damagePart what part (now (text .entry)) ⌝ }
 {
     if what < 7 {
-        return damage_reference(text, part, what as u32);
+        return damage_number(text, part, what as u32);
     }
     if what == 7 {
         return damage_set(text, part);
@@ -139,7 +151,17 @@ fn damage_box(part: u32, text: &[u8]) -> Command
     damage_part(what, part, text)
 }
 
-// What is damaged: a box, a reading, the pilot flying or independent operation.
+fn damage_whole(text: &[u8]) -> Command
+    ensures { λ res. ⌜ res ≡ damageWhole (now (text .entry)) ⌝ }
+{
+    let kind = kind_at(text, 2);
+    if kind < 6 {
+        return damage_number(text, 4, kind as u32);
+    }
+    Command::Wrong(NO_KIND)
+}
+
+// What is damaged: a box, a whole value, a reading, the pilot flying or independent operation.
 fn damage_by(what: usize, text: &[u8]) -> Command
     ensures { λ res. ⌜ res ≡ damageBy what (now (text .entry)) ⌝ }
 {
@@ -147,17 +169,18 @@ fn damage_by(what: usize, text: &[u8]) -> Command
         return damage_box(what as u32, text);
     }
     match what {
-        4 => damage_reading(text),
-        5 => damage_pf(text),
-        6 => damage_independent(text),
+        4 => damage_whole(text),
+        5 => damage_reading(text),
+        6 => damage_pf(text),
+        7 => damage_independent(text),
         _ => Command::Wrong(NO_DAMAGE),
     }
 }
 
 pub(crate) fn damage(text: &[u8]) -> Command
-    ensures { λ res. ⌜ res ≡ damageBy (lookupOf (wordOf (now (text .entry)) 1) damageNames 7) (now (text .entry)) ⌝ }
+    ensures { λ res. ⌜ res ≡ damageBy (lookupOf (wordOf (now (text .entry)) 1) damageNames 8) (now (text .entry)) ⌝ }
 {
-    let names = b"left right left-inbox right-inbox reading pf independent";
-    let what = words::lookup(words::word(text, 1), names, 7);
+    let names = b"left right left-inbox right-inbox whole reading pf independent";
+    let what = words::lookup(words::word(text, 1), names, 8);
     damage_by(what, text)
 }

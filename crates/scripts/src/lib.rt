@@ -41,6 +41,8 @@ pub enum Command {
     Watch(bool),
     DamagePf(u32),
     DamageReading(Reading),
+    // the whole value of a kind, which goes by its number from 0
+    DamageWhole(u32, i32),
     DamageSet(u32, ModeSet),
     DamageReference(u32, u32, i32),
     DamageIndependent(bool),

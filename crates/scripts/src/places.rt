@@ -1,7 +1,7 @@
 // The words of a line in their places: as numbers, as names, as readings; and the end of a command.
 ghost use mathlib.Core.Path.{_≡_};
 ghost use Prim.Native.Nat.{_<_};
-ghost use Rattle.scripts.specs.Commands.{endsAt, numberAt, namedIn, sideAt, kindBy, readingBy, readingAt};
+ghost use Rattle.scripts.specs.Commands.{endsAt, numberAt, namedIn, sideAt, kindBy, kindAt, readingBy, readingAt};
 use crate::Command;
 use crate::NO_KIND;
 use crate::NO_VALUE;
@@ -76,13 +76,20 @@ fn reading_by(kind: usize, value: Value) -> Named
     }
 }
 
+// The number of the kind that word n names; 6 where it names none.
+pub(crate) fn kind_at(text: &[u8], n: usize) -> usize
+    ensures { λ res. ⌜ res ≡ kindAt (now (text .entry)) n ⌝ }
+{
+    let names = b"altitude airspeed vertical-speed roll pitch heading";
+    words::lookup(words::word(text, n), names, 6)
+}
+
 // The reading of KIND VALUE, the words n and n + 1.
 pub(crate) fn reading_at(text: &[u8], n: usize) -> Named
     requires { ⌜ n < 255 ⌝ }
     ensures { λ res. ⌜ res ≡ readingAt (now (text .entry)) n ⌝ }
 {
-    let names = b"altitude airspeed vertical-speed roll pitch heading";
-    let kind = words::lookup(words::word(text, n), names, 6);
+    let kind = kind_at(text, n);
     if 6 <= kind {
         return Named::Wrong(NO_KIND);
     }

@@ -34,6 +34,7 @@ module _ (line : List ℕ) (b : Bench) (area : List ℕ) (h : length area ≤ 20
   by-command (Command.Watch on) k = h
   by-command (Command.DamagePf n) k = h
   by-command (Command.DamageReading r) k = h
+  by-command (Command.DamageWhole kind x) k = h
   by-command (Command.DamageSet n set) k = h
   by-command (Command.DamageReference n place x) k = h
   by-command (Command.DamageIndependent on) k = h

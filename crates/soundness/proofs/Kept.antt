@@ -18,7 +18,7 @@ use Rattle.modes.proofs.Every.{laterals, verticals}
 use Rattle.bench.specs.declared.Bench.{Bench}
 use Rattle.bench.specs.Parts.{withReference}
 use Rattle.bench.specs.Ranges.{referenceRange}
-use Rattle.bench.specs.Readings.{wholeReading, refusalOf}
+use Rattle.bench.specs.Readings.{wholeReading, refusalOf, wholeNumber}
 use Rattle.bench.specs.Holds.{startChannel, powerOn}
 use Rattle.bench.specs.Independent.{independentSound, ended}
 use Rattle.bench.specs.Sound.{referencesSound, channelSound, readingsSound, sound}
@@ -32,7 +32,7 @@ pub mod Changes
 -- ---- power-on, computed
 
 pub power-on-sound : sound powerOn ≡ true
-unfolding sound independentSound powerOn startChannel withReference referenceRange channelSound referencesSound readingsSound refusalOf wholeReading wholeOf ofBits
+unfolding sound independentSound powerOn startChannel withReference referenceRange channelSound referencesSound readingsSound refusalOf wholeReading wholeNumber wholeOf ofBits
 power-on-sound = refl
 
 -- ---- the calls

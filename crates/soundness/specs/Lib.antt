@@ -1,2 +1,3 @@
 pub mod Kept
+pub mod Feed
 pub mod Lowest

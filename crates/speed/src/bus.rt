@@ -6,8 +6,10 @@
 ghost use Prim.Native.Nat.{_<_};
 use bench::Bench;
 use bench::Channel;
+use bench::Reading;
 use bench::Readings;
 use bench::References;
+use bench::Wholes;
 use bench::parts::HEADING;
 use bench::parts::HELD;
 use bench::parts::IAS;
@@ -83,6 +85,27 @@ fn readings_of(word: u64) -> Readings {
     }
 }
 
+fn whole(r: Reading) -> i32 {
+    bench::feed::number_of(bench::feed::whole_reading(r))
+}
+
+// Their whole values.
+fn wholes_of(w: Readings) -> Wholes {
+    Wholes {
+        altitude: whole(Reading::Altitude(w.altitude)),
+        airspeed: whole(Reading::Airspeed(w.airspeed)),
+        vertical_speed: whole(Reading::VerticalSpeed(w.vertical_speed)),
+        roll: whole(Reading::Roll(w.roll)),
+        pitch: whole(Reading::Pitch(w.pitch)),
+        heading: whole(Reading::Heading(w.heading)),
+    }
+}
+
+// The bench with these readings and their whole values.
+fn with_feed(b: Bench, w: Readings) -> Bench {
+    bench::parts::with_wholes(bench::parts::with_readings(b, w), wholes_of(w))
+}
+
 // The bench with a PF side, which rarely is none: then the bench is unsound, and never else.
 fn with_pf(b: Bench, word: u64) -> Bench {
     let pf = if crate::list::is_rare(word) { 2 } else { 0 };
@@ -96,7 +119,7 @@ fn bench_of(word: u64) -> Bench {
     let left = channel_of(word);
     let right = channel_of(other);
     let mut b = with_pf(bench::power_on(), other);
-    b = bench::parts::with_readings(b, readings_of(other));
+    b = with_feed(b, readings_of(other));
     b = bench::parts::with_box(b, 0, left);
     b = bench::parts::with_box(b, 1, right);
     b = bench::parts::with_box(b, 2, right);

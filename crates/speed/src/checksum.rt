@@ -113,7 +113,8 @@ fn fold_readings(sum: u64, w: Readings) -> u64 {
     fold(pitch, float_code(w.heading))
 }
 
-// All that a bench holds.
+// All that a bench of document 01 holds: independent operation and whole values are left out, which the
+// baseline does not have.
 pub(crate) fn fold_bench(sum: u64, b: Bench) -> u64 {
     let shared = b.shared;
     let counts = b.counts;

@@ -5,16 +5,20 @@ use Prim.Native.Nat.{ℕ, zero, suc}
 use native.Mathlib.Omega.{arith}
 use borrow.Author.Tests.{ne-eqb}
 use lib.Dec.{eqb}
+use lib.IntN.{ℤ}
 use Rattle.modes.specs.declared.ModeSet.{ModeSet}
 use Rattle.modes.specs.Sets.{Mode, ROLL, PITCH, VS, FLC, ALT, engaged, engagedIn}
 use Rattle.modes.specs.Numbers.{lateralLaw, verticalLaw}
 use Rattle.modes.proofs.Joins.{lateral-shown, vertical-shown}
 use Rattle.bench.specs.declared.References.{References}
-use Rattle.bench.specs.declared.Readings.{Readings}
-use Rattle.bench.specs.declared.Reading.{Reading}
+use Rattle.bench.specs.declared.Wholes.{Wholes}
 use Rattle.bench.specs.Parts.{atHeld, atVerticalSpeed, atIas, atRoll, atPitch}
 use Rattle.steps.specs.Entry.{newly, loaded, entry}
 use Rattle.steps.specs.Private.{lateralEntry, verticalEntry}
+
+-- what `load` ensures speaks of a number's bits, and so of the number
+pub loads-whole : (place : ℕ) (r : References) {x y : ℤ} {a : References} → x ≡ y → a ≡ loaded place x r → a ≡ loaded place y r
+loads-whole place r e h = h ∙ ap (λ (n : ℤ). loaded place n r) e
 
 -- a law is shown after, and was not before
 abbrev appears : ℕ → ℕ → ℕ → Bool
@@ -59,22 +63,22 @@ module _ {A : Type 0} (was : ℕ) (f g h k : A → A) where
       rw (ne-eqb law 1 (λ e. omega arith), ne-eqb law 2 (λ e. omega arith), ne-eqb law 3 (λ e. omega arith), ne-eqb law 4 (λ e. omega arith))
 
 -- entry by the laws is entry by the modes
-module _ (w : Readings) (before after : ModeSet) where
-  lateral-newly : (k : ℕ) (x : Mode) → ((s : ModeSet) → eqb (lateralLaw s) k ≡ engagedIn x s) → appears k (lateralLaw before) (lateralLaw after) ≡ newly x before after
-  lateral-newly k x h = λ i. h after i && not (h before i)
+module _ (k : Wholes) (before after : ModeSet) where
+  lateral-newly : (n : ℕ) (x : Mode) → ((s : ModeSet) → eqb (lateralLaw s) n ≡ engagedIn x s) → appears n (lateralLaw before) (lateralLaw after) ≡ newly x before after
+  lateral-newly n x h = λ i. h after i && not (h before i)
 
-  vertical-newly : (k : ℕ) (x : Mode) → ((s : ModeSet) → eqb (verticalLaw s) k ≡ engagedIn x s) → appears k (verticalLaw before) (verticalLaw after) ≡ newly x before after
-  vertical-newly k x h = λ i. h after i && not (h before i)
+  vertical-newly : (n : ℕ) (x : Mode) → ((s : ModeSet) → eqb (verticalLaw s) n ≡ engagedIn x s) → appears n (verticalLaw before) (verticalLaw after) ≡ newly x before after
+  vertical-newly n x h = λ i. h after i && not (h before i)
 
   pub entry-by-law : (r : References)
-      → verticalEntry w (verticalLaw before) (verticalLaw after) (lateralEntry w (lateralLaw before) (lateralLaw after) r) ≡ entry w before after r
+      → verticalEntry k (verticalLaw before) (verticalLaw after) (lateralEntry k (lateralLaw before) (lateralLaw after) r) ≡ entry k before after r
   unfolding entry engaged
   entry-by-law r =
-      let roll = loaded atRoll (Reading.Roll (w .roll)) in
-      let pitch = loaded atPitch (Reading.Pitch (w .pitch)) in
-      let vs = loaded atVerticalSpeed (Reading.VerticalSpeed (w .«vertical_speed»)) in
-      let flc = loaded atIas (Reading.Airspeed (w .airspeed)) in
-      let alt = loaded atHeld (Reading.Altitude (w .altitude)) in
+      let roll = loaded atRoll (k .roll) in
+      let pitch = loaded atPitch (k .pitch) in
+      let vs = loaded atVerticalSpeed (k .«vertical_speed») in
+      let flc = loaded atIas (k .airspeed) in
+      let alt = loaded atHeld (k .altitude) in
       four-laws (verticalLaw before) pitch vs flc alt (verticalLaw after) _
       ∙ (λ i. when (vertical-newly 4 ALT (vertical-shown 4 ALT tt) i) alt
       (when (vertical-newly 3 FLC (vertical-shown 3 FLC tt) i) flc

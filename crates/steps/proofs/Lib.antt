@@ -1,2 +1,3 @@
 pub mod ByLaw
 pub mod ByEvent
+pub mod Rounded

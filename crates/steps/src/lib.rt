@@ -1,9 +1,8 @@
 // The three steps of an event, and entry.
 use bench::Bench;
-use bench::Reading;
-use bench::Readings;
 use bench::References;
 use bench::Shared;
+use bench::Wholes;
 use bench::parts::HELD;
 use bench::parts::IAS;
 use bench::parts::PITCH;
@@ -24,23 +23,22 @@ ghost use Rattle.steps.specs.Entry.{loaded, entry, settled};
 ghost use Rattle.steps.specs.Private.{lateralEntry, verticalEntry};
 ghost use Rattle.steps.specs.Steps.{sharedAfter, toggledFd, asksFor, fdAfter, withFdAfter, firstStep, isOn, comingOn, secondStep, thirdStep, laterSteps, threeSteps, acted};
 
-// The references with a reading's whole value at a place, clamped to its range.
-fn load(r: References, place: u32, reading: Reading) -> References
-    ensures { λ res. ⌜ res ≡ loaded place reading r ⌝ }
+// The references with a kept whole value at a place, clamped to its range.
+fn load(r: References, place: u32, whole: i32) -> References
+    ensures { λ res. ⌜ res ≡ loaded place whole r ⌝ }
 {
     let range = bench::ranges::reference_range(place);
-    let whole = bench::feed::whole_number(reading);
     bench::parts::with_reference(r, place, bench::ranges::clamped_sum(range, whole, 0))
 }
 
 // What a newly engaged lateral mode loads: ROLL, law 1, roll.
-fn enter_lateral(w: Readings, was: u32, law: u32, r: References) -> References
-    ensures { λ res. ⌜ res ≡ lateralEntry w was law r ⌝ }
+fn enter_lateral(k: Wholes, was: u32, law: u32, r: References) -> References
+    ensures { λ res. ⌜ res ≡ lateralEntry k was law r ⌝ }
 {
     match law {
         1 => match was {
             1 => r,
-            _ => load(r, ROLL, Reading::Roll(w.roll)),
+            _ => load(r, ROLL, k.roll),
         },
         _ => r,
     }
@@ -48,36 +46,36 @@ fn enter_lateral(w: Readings, was: u32, law: u32, r: References) -> References
 
 // What a newly engaged vertical mode loads: PITCH, law 1, pitch; VS, 2, vertical speed; FLC, 3,
 // airspeed; ALT, 4, altitude.
-fn enter_vertical(w: Readings, was: u32, law: u32, r: References) -> References
-    ensures { λ res. ⌜ res ≡ verticalEntry w was law r ⌝ }
+fn enter_vertical(k: Wholes, was: u32, law: u32, r: References) -> References
+    ensures { λ res. ⌜ res ≡ verticalEntry k was law r ⌝ }
 {
     match law {
         1 => match was {
             1 => r,
-            _ => load(r, PITCH, Reading::Pitch(w.pitch)),
+            _ => load(r, PITCH, k.pitch),
         },
         2 => match was {
             2 => r,
-            _ => load(r, VERTICAL_SPEED, Reading::VerticalSpeed(w.vertical_speed)),
+            _ => load(r, VERTICAL_SPEED, k.vertical_speed),
         },
         3 => match was {
             3 => r,
-            _ => load(r, IAS, Reading::Airspeed(w.airspeed)),
+            _ => load(r, IAS, k.airspeed),
         },
         4 => match was {
             4 => r,
-            _ => load(r, HELD, Reading::Altitude(w.altitude)),
+            _ => load(r, HELD, k.altitude),
         },
         _ => r,
     }
 }
 
 // The references of a side whose set goes from one to another.
-pub fn enter_references(w: Readings, before: ModeSet, after: ModeSet, r: References) -> References
-    ensures { λ res. ⌜ res ≡ entry w before after r ⌝ }
+pub fn enter_references(k: Wholes, before: ModeSet, after: ModeSet, r: References) -> References
+    ensures { λ res. ⌜ res ≡ entry k before after r ⌝ }
 {
-    let lateral = enter_lateral(w, lateral_law(before), lateral_law(after), r);
-    enter_vertical(w, vertical_law(before), vertical_law(after), lateral)
+    let lateral = enter_lateral(k, lateral_law(before), lateral_law(after), r);
+    enter_vertical(k, vertical_law(before), vertical_law(after), lateral)
 }
 
 // A side takes another set, with entry.
@@ -87,8 +85,8 @@ pub fn settle(b: Bench, side: u32, after: ModeSet) -> Bench
     let c = box_of(b, side);
     let before = c.set;
     let was = c.references;
-    let readings = b.readings;
-    let references = enter_references(readings, before, after, was);
+    let wholes = b.wholes;
+    let references = enter_references(wholes, before, after, was);
     let next = bench::parts::with_set(c, after);
     with_box(b, side, bench::parts::with_references(next, references))
 }

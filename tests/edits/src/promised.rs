@@ -31,6 +31,8 @@ const FIELDS: &[&str] = &[
     "part-laws : PartLaws",
     "reading-laws : ReadingLaws",
     "reading-examples : ReadingExamples",
+    "feed-laws : FeedLaws",
+    "entry-laws : EntryLaws",
     "code-laws : CodeLaws",
     "frame-laws : FrameLaws",
     "frame-examples : FrameExamples",

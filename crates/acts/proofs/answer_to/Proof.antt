@@ -1,5 +1,5 @@
 -- `acts::answer_to` meets its contract: each arm hands on the answer of its call, or the bench that it made.
--- The last twenty-five needs are the arms, in the order of the commands. Assumes nothing.
+-- The last twenty-six needs are the arms, in the order of the commands. Assumes nothing.
 use mathlib.Core.Path.{_∙_, ap}
 use Rattle.acts.specs.Acts.{eventless, leaves, answerTo}
 use borrow.Author.Needs.{needs}
@@ -64,6 +64,9 @@ answer-to-spec =
     (λ c κs. search needs)
     (λ c. search needs)
     (λ c κs. search needs)
+    (λ c κs. search needs)
+    (λ c. search needs)
+    (λ c κs. search needs)
     (λ c. search needs)
     (λ c κs. search needs)
     (λ c. search needs)
@@ -89,11 +92,12 @@ answer-to-spec =
     (λ c. rw (c .before .enum-told9 .given .1) (c .bench-alone9 .ensures))
     (λ c. rw (c .before .before .before .c7 .given .1) (c .bench-alone10 .ensures ∙ ap leaves (c .before .damage-pf .ensures)))
     (λ c. rw (c .before .before .before .c8 .given .1) (c .bench-alone11 .ensures ∙ ap leaves (c .before .damage-reading .ensures)))
-    (λ c. rw (c .before .before .before .c9 .given .1) (c .bench-alone12 .ensures ∙ ap leaves (c .before .damage-set .ensures)))
-    (λ c. rw (c .before .before .before .c10 .given .1) (c .bench-alone13 .ensures ∙ ap leaves (c .before .damage-reference .ensures) ∙ search needs))
-    (λ c. rw (c .before .before .before .c11 .given .1) (c .bench-alone14 .ensures ∙ ap leaves (c .before .with-operation .ensures)))
-    (λ c. rw (c .before .enum-told10 .given .1) (c .bench-alone15 .ensures))
-    (λ c. rw (c .before .enum-told11 .given .1) (c .bench-alone16 .ensures))
-    (λ c. rw (c .before .enum-told12 .given .1) (c .bench-alone17 .ensures))
-    (λ c. rw (c .before .enum-told13 .given .1) (c .bench-alone18 .ensures))
-    (λ c. rw (c .before .enum-told14 .given .1) (c .bench-alone19 .ensures)))
+    (λ c. rw (c .before .before .before .c9 .given .1) (c .bench-alone12 .ensures ∙ ap leaves (c .before .damage-whole .ensures) ∙ search needs))
+    (λ c. rw (c .before .before .before .c10 .given .1) (c .bench-alone13 .ensures ∙ ap leaves (c .before .damage-set .ensures)))
+    (λ c. rw (c .before .before .before .c11 .given .1) (c .bench-alone14 .ensures ∙ ap leaves (c .before .damage-reference .ensures) ∙ search needs))
+    (λ c. rw (c .before .before .before .c12 .given .1) (c .bench-alone15 .ensures ∙ ap leaves (c .before .with-operation .ensures)))
+    (λ c. rw (c .before .enum-told10 .given .1) (c .bench-alone16 .ensures))
+    (λ c. rw (c .before .enum-told11 .given .1) (c .bench-alone17 .ensures))
+    (λ c. rw (c .before .enum-told12 .given .1) (c .bench-alone18 .ensures))
+    (λ c. rw (c .before .enum-told13 .given .1) (c .bench-alone19 .ensures))
+    (λ c. rw (c .before .enum-told14 .given .1) (c .bench-alone20 .ensures)))

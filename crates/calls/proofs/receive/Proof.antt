@@ -1,7 +1,7 @@
--- `calls::receive` meets its contract: where the refusal is 0 the readings are replaced, else the bench stays. Assumes nothing.
+-- `calls::receive` meets its contract: where the refusal is 0 the readings and the whole values are replaced, else the bench stays. Assumes nothing.
 use mathlib.Core.Path.{_≡_, sym, ap, _∙_}
 use mathlib.Core.Bool.{cond}
-use Rattle.bench.specs.Parts.{withReadings}
+use Rattle.bench.specs.Parts.{withReadings, withWholes}
 use Rattle.bench.specs.Readings.{judged}
 use Rattle.bench.specs.Independent.{ended}
 use Rattle.bench.specs.Sound.{sound}
@@ -21,17 +21,17 @@ unfolding receivedAs
 returns c =
     let args = c .before .before .before .args in
     let h = found (c .before) in
-    λ i. record { refusal = h i; bench = if-refused _ _ h (c .if1 .taken) (ended (withReadings (args .next) (args .b))) (args .b) i }
+    λ i. record { refusal = h i; bench = if-refused _ _ h (c .if1 .taken) (ended (withWholes (args .wholes) (withReadings (args .readings) (args .b)))) (args .b) i }
 
 returns-2 : tie.Need-returns-2
 unfolding receivedAs
 returns-2 c =
-    let at-test = c .before .before in
+    let at-test = c .before .before .before in
     let none = at-test .if1 .left in
     let at-found = at-test .before in
     let args = at-found .before .before .args in
     let h = found at-found in
-    c .accept .ensures ∙ (λ i. record { refusal = (sym none ∙ h) i; bench = (ap ended (c .before .with-readings .ensures) ∙ if-accepted _ _ h none _ (args .b)) i })
+    c .accept .ensures ∙ (λ i. record { refusal = (sym none ∙ h) i; bench = (ap ended (c .before .with-wholes .ensures ∙ ap (withWholes (args .wholes)) (c .before .before .with-readings .ensures)) ∙ if-accepted _ _ h none _ (args .b)) i })
 
 pub receive-spec : {M : Type 1} → statement M
-receive-spec = tie.close (tie.spec (λ c κs. search needs) (λ c κs. search needs) returns (λ c κs. search needs) (λ c κs. search needs) returns-2)
+receive-spec = tie.close (tie.spec (λ c κs. search needs) (λ c κs. search needs) returns (λ c κs. search needs) (λ c κs. search needs) (λ c κs. search needs) returns-2)

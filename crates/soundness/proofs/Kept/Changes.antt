@@ -21,15 +21,17 @@ use Rattle.modes.proofs.Laws.{change-coherent}
 use Rattle.bench.specs.declared.References.{References}
 use Rattle.bench.specs.declared.Channel.{Channel}
 use Rattle.bench.specs.declared.Readings.{Readings}
+use Rattle.bench.specs.declared.Wholes.{Wholes}
 use Rattle.bench.specs.declared.Reading.{Reading}
 use Rattle.bench.specs.declared.Bench.{Bench}
 use Rattle.bench.specs.declared.ranges.Range.{Range}
-use Rattle.bench.specs.Parts.{withShared, withCounts, withReadings, box, withBox, withFd, withSet, withReferences, reference, withReference, atHeading, countOf}
+use Rattle.bench.specs.Parts.{withShared, withCounts, withReadings, withWholes, box, withBox, withFd, withSet, withReferences, reference, withReference, atHeading, countOf, withWhole}
 use Rattle.bench.specs.Ranges.{within, clamped, referenceRange}
-use Rattle.bench.specs.Readings.{stored, wholeNumber}
+use Rattle.bench.specs.Readings.{wholeNumber, stored, storedWhole, same}
 use Rattle.bench.specs.Sides.{otherSide, inboxOf, side, acts, whereActing, onActing}
 use Rattle.bench.specs.Independent.{bothApproach, independentSound, withOperation, begun, ended}
-use Rattle.bench.specs.Sound.{valid}
+use Rattle.bench.specs.Sound.{valid, kept}
+use Rattle.bench.proofs.Same.{same-self}
 use Rattle.bench.proofs.Replaced.{reference-read}
 use Rattle.steps.specs.Entry.{newly, loaded, loads, entry, enter, settled}
 use Rattle.steps.specs.Steps.{sharedAfter, withFdAfter, firstStep, isOn, comingOn, secondStep, thirdStep, laterSteps, threeSteps}
@@ -93,20 +95,20 @@ clamped-reference-in n x r h = with-reference-in n _ r (clamped-in (referenceRan
 
 -- ---- entry
 
-loads-in : (x : Mode) (n : ℕ) (reading : Reading) (before after : ModeSet) (r : References) → ReferencesIn r → ReferencesIn (loads x n reading before after r)
+loads-in : (x : Mode) (n : ℕ) (whole : ℤ) (before after : ModeSet) (r : References) → ReferencesIn r → ReferencesIn (loads x n whole before after r)
 unfolding loaded
-loads-in x n reading before after r h =
-    by-cond ReferencesIn (newly x before after) (loaded n reading r) r (λ e. clamped-reference-in n (wholeNumber reading) r h) (λ e. h)
+loads-in x n whole before after r h =
+    by-cond ReferencesIn (newly x before after) (loaded n whole r) r (λ e. clamped-reference-in n whole r h) (λ e. h)
 
-entry-in : (w : Readings) (before after : ModeSet) (r : References) → ReferencesIn r → ReferencesIn (entry w before after r)
+entry-in : (k : Wholes) (before after : ModeSet) (r : References) → ReferencesIn r → ReferencesIn (entry k before after r)
 unfolding entry
-entry-in w before after r h = loads-in _ _ _ before after _ (loads-in _ _ _ before after _ (loads-in _ _ _ before after _ (loads-in _ _ _ before after _ (loads-in _ _ _ before after r h))))
+entry-in k before after r h = loads-in _ _ _ before after _ (loads-in _ _ _ before after _ (loads-in _ _ _ before after _ (loads-in _ _ _ before after _ (loads-in _ _ _ before after r h))))
 
 -- side s takes a coherent set, with entry
 settled-sound : (after : ModeSet) (s : ℕ) (b : Bench) → coherentSet after ≡ true → PartsIn b → PartsIn (settled after s b)
 unfolding settled enter withSet withReferences
 settled-sound after s b k h =
-    with-box-sound s _ b (record { set = k; references = entry-in (b .readings) (side b s .set) after (side b s .references) (box-sound s b h .references) }) h
+    with-box-sound s _ b (record { set = k; references = entry-in (b .wholes) (side b s .set) after (side b s .references) (box-sound s b h .references) }) h
 
 -- ---- modes
 
@@ -225,19 +227,23 @@ turned-sound knob n b h =
 
 -- ---- readings, sends and refreshes
 
--- an accepted reading is stored
-stored-sound : (r : Reading) (w : Readings) → valid r ≡ true → ReadingsIn w → ReadingsIn (stored r w)
-unfolding stored
-stored-sound (Reading.Altitude x) w k h = search
-stored-sound (Reading.Airspeed x) w k h = search
-stored-sound (Reading.VerticalSpeed x) w k h = search
-stored-sound (Reading.Roll x) w k h = search
-stored-sound (Reading.Pitch x) w k h = search
-stored-sound (Reading.Heading x) w k h = search
+-- an accepted reading may stand beside its own whole value,
+kept-own : (r : Reading) → valid r ≡ true → kept r (wholeNumber r) ≡ true
+kept-own r h = and-both (valid r) (same (wholeNumber r) (wholeNumber r)) h (same-self (wholeNumber r))
+
+-- and both are stored
+stored-sound : (r : Reading) (w : Readings) (k : Wholes) → kept r (wholeNumber r) ≡ true → ReadingsIn w k → ReadingsIn (stored r w) (storedWhole r k)
+unfolding stored withWhole storedWhole
+stored-sound (Reading.Altitude x) w k e h = search
+stored-sound (Reading.Airspeed x) w k e h = search
+stored-sound (Reading.VerticalSpeed x) w k e h = search
+stored-sound (Reading.Roll x) w k e h = search
+stored-sound (Reading.Pitch x) w k e h = search
+stored-sound (Reading.Heading x) w k e h = search
 
 pub received-sound : (r : Reading) (b : Bench) → valid r ≡ true → PartsIn b → PartsIn (received r b)
-unfolding received withReadings
-received-sound r b k h = search stored-sound
+unfolding received withReadings withWholes
+received-sound r b k h = search (stored-sound, kept-own)
 
 -- a side's channel goes into the other's inbox
 pub sent-sound : (s : ℕ) (b : Bench) → PartsIn b → PartsIn (sent s b)

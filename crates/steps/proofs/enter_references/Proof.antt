@@ -10,7 +10,7 @@ returns c =
     let at-lateral = c .before .before .before in
     let given = at-lateral .before .before .before .args in
     simp (c .enter-vertical .ensures, c .before .vertical-law2 .ensures, c .before .before .vertical-law .ensures, at-lateral .enter-lateral .ensures)
-    (simp (at-lateral .before .lateral-law2 .ensures, at-lateral .before .before .lateral-law .ensures) (entry-by-law (given .w) (given .before) (given .after) (given .r)))
+    (simp (at-lateral .before .lateral-law2 .ensures, at-lateral .before .before .lateral-law .ensures) (entry-by-law (given .k) (given .before) (given .after) (given .r)))
 
 pub enter-references-spec : {M : Type 1} → statement M
 enter-references-spec =

@@ -9,9 +9,9 @@ use Rattle.steps.proofs.load.Tie as tie
 returns : tie.Need-returns
 unfolding loaded
 returns c =
-    let whole = c .before .before .whole-number in
+    let at-start = c .before .before .before in
     let sum = c .before .clamped-sum in
-    cc (same32 (whole .result) (record { sfits = whole .ok }), same32 (sum .result) (record { sfits = sum .ok }), +ℤ-idr (whole .result))
+    cc (same32 (at-start .args .whole) (at-start .fits .whole), same32 (sum .result) (record { sfits = sum .ok }), +ℤ-idr (at-start .args .whole))
 
 pub load-spec : {M : Type 1} → statement M
-load-spec = tie.close (tie.spec (λ c κs. search needs) (λ c κs. search needs) (λ c κs. search needs) (λ c κs. search needs) returns)
+load-spec = tie.close (tie.spec (λ c κs. search needs) (λ c κs. search needs) (λ c κs. search needs) returns)

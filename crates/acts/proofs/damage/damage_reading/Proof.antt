@@ -1,11 +1,11 @@
 -- `acts::damage::damage_reading` meets its contract: the readings are replaced by ones that have it. Assumes nothing.
-use Rattle.calls.specs.Calls.{received}
+use Rattle.acts.specs.Damage.{readingDamaged}
 use borrow.Author.Needs.{needs}
 use Rattle.acts.proofs.damage.damage_reading.Statement.{statement}
 use Rattle.acts.proofs.damage.damage_reading.Tie as tie
 
 returns : tie.Need-returns
-unfolding received
+unfolding readingDamaged
 returns c = cc
 
 pub damage-reading-spec : {M : Type 1} → statement M

@@ -8,7 +8,7 @@ use mir.Syntax.{w32}
 use mir.Val.{SFits, ofZ}
 use Rattle.rotation.proofs.Signed.{same32}
 use Rattle.bench.specs.Readings.{exchanged}
-use Rattle.bench.proofs.Wholes.{exchanged-other}
+use Rattle.bench.proofs.WholeLaws.{exchanged-other}
 use borrow.Author.Needs.{needs}
 use Rattle.bench.proofs.feed.wrap.Statement.{statement}
 use Rattle.bench.proofs.feed.wrap.Tie as tie

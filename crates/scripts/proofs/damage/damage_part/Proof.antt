@@ -10,7 +10,7 @@ unfolding damagePart
 damage-part-spec =
     tie.close (tie.spec
     (λ c. search needs) (λ c κs. search needs)
-    (λ c. rw (lt-ltb _ _ (c .before .if1 .taken)) (c .damage-reference .ensures))
+    (λ c. rw (lt-ltb _ _ (c .before .if1 .taken)) (c .damage-number .ensures))
     (λ c κs. search needs)
     (λ c. rw (c .before .if2 .taken) (c .damage-set .ensures))
     (λ c. rw (le-ltb _ _ (c .before .if1 .left), ne-eqb _ _ (c .if2 .left))))
