@@ -11,6 +11,7 @@ mod readings;
 mod sets;
 mod sheet;
 mod shown;
+mod wholes;
 mod words;
 
 use crate::gate::{Gate, Stop};
@@ -25,7 +26,7 @@ pub struct Part {
 const SAME: &str = "same answers";
 
 /// The drawings come last, so that all that two programs can differ in is seen before.
-pub const ALL: [Part; 10] = [
+pub const ALL: [Part; 11] = [
     Part {
         name: "bench sheet",
         found: SAME,
@@ -60,6 +61,11 @@ pub const ALL: [Part; 10] = [
         name: "independent operation",
         found: SAME,
         run: independent::run,
+    },
+    Part {
+        name: "whole readings",
+        found: SAME,
+        run: wholes::run,
     },
     Part {
         name: "random lists",

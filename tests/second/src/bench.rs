@@ -175,6 +175,9 @@ pub struct Bench {
     pub independent: bool,
     pub counts: [u8; 4],
     pub readings: [u64; 6],
+    /// The whole values of the readings, kept beside them (document 02,
+    /// 2026-05).
+    pub wholes: [i32; 6],
     pub sides: [Channel; 2],
     /// The inbox of each side, holding the last copy of the other side.
     pub inboxes: [Channel; 2],
@@ -182,18 +185,19 @@ pub struct Bench {
 
 impl Bench {
     pub fn power_on() -> Bench {
-        let mut readings = [0.0_f64.to_bits(); 6];
-        readings[Kind::Airspeed as usize] = 90.0_f64.to_bits();
-        Bench {
+        let mut bench = Bench {
             pf: 0,
             ap: false,
             overspeed: false,
             independent: false,
             counts: [0; 4],
-            readings,
+            readings: [0.0_f64.to_bits(); 6],
+            wholes: [0; 6],
             sides: [Channel::POWER_ON; 2],
             inboxes: [Channel::POWER_ON; 2],
-        }
+        };
+        bench.keep(Kind::Airspeed, 90.0_f64.to_bits(), 90);
+        bench
     }
 
     /// The sides that events and knobs act on: the pilot flying's, or both in
@@ -215,13 +219,27 @@ impl Bench {
         self.readings[kind as usize]
     }
 
+    pub fn whole(&self, kind: Kind) -> i32 {
+        self.wholes[kind as usize]
+    }
+
+    /// Stores a reading and its whole value together, so that neither stays
+    /// from an earlier one.
+    pub fn keep(&mut self, kind: Kind, bits: u64, whole: i32) {
+        self.readings[kind as usize] = bits;
+        self.wholes[kind as usize] = whole;
+    }
+
+    /// Whether a reading has a whole value in range, and the kept one is that.
+    fn is_kept_true(&self, kind: Kind) -> bool {
+        kind.whole(self.reading(kind)) == Ok(self.whole(kind))
+    }
+
     pub fn is_sound(&self) -> bool {
         let channels = || self.sides.iter().chain(&self.inboxes);
         self.pf <= 1
             && (!self.independent || self.both_on_approach())
             && channels().all(Channel::is_sound)
-            && Kind::ALL
-                .iter()
-                .all(|&kind| kind.whole(self.reading(kind)).is_ok())
+            && Kind::ALL.iter().all(|&kind| self.is_kept_true(kind))
     }
 }

@@ -142,11 +142,9 @@ fn enter(before: &Bench, bench: &mut Bench, side: usize) {
 }
 
 fn load(bench: &mut Bench, side: usize, reference: Reference, kind: Kind) {
-    // A sound bench holds no reading without a whole value.
-    if let Ok(value) = kind.whole(bench.reading(kind)) {
-        let references = &mut bench.sides[side].references;
-        references.put_clamped(reference, value);
-    }
+    // Rounded once, when the reading was accepted (document 02, 2026-05).
+    let whole = bench.whole(kind);
+    bench.sides[side].references.put_clamped(reference, whole);
 }
 
 // ---- Sends and refreshes ----
@@ -241,8 +239,8 @@ fn turn_heading(side: &mut Channel, r: i32) {
 
 pub fn reading(bench: &mut Bench, kind: Kind, bits: u64) -> Result<(), Refusal> {
     check_sound(bench)?;
-    kind.whole(bits)?;
-    bench.readings[kind as usize] = bits;
+    let whole = kind.whole(bits)?;
+    bench.keep(kind, bits, whole);
     Ok(())
 }
 
@@ -291,4 +289,22 @@ fn lamps(bench: &Bench, modes: ModeSet) -> u32 {
 pub fn pick(bench: &Bench, side: u32) -> Result<(u32, u32), Refusal> {
     let shown = display(bench, side)?;
     Ok((shown.lateral, shown.vertical))
+}
+
+#[cfg(test)]
+mod tests {
+    use super::*;
+
+    /// No accepted call shows it, since a sound bench keeps nothing but the
+    /// float's own whole value.
+    #[test]
+    fn entry_takes_the_kept_whole_value_and_rounds_nothing() {
+        let mut bench = Bench::power_on();
+        bench.keep(Kind::Roll, 3.75_f64.to_bits(), -7);
+        load(&mut bench, 1, Reference::Roll, Kind::Roll);
+        assert_eq!(bench.sides[1].references.get(Reference::Roll), -7);
+        bench.keep(Kind::Roll, crate::float::NAN, i32::MIN);
+        load(&mut bench, 1, Reference::Roll, Kind::Roll);
+        assert_eq!(bench.sides[1].references.get(Reference::Roll), -27);
+    }
 }

@@ -140,7 +140,9 @@ fn carry_out_damage(bench: &mut Bench, damage: Damage) {
         Damage::Reference(place, reference, value) => {
             channel(bench, place).references.put(reference, value);
         }
+        // Each alone: the other of the two stays what it was.
         Damage::Reading(kind, bits) => bench.readings[kind as usize] = bits,
+        Damage::Whole(kind, whole) => bench.wholes[kind as usize] = whole,
     }
 }
 
@@ -251,6 +253,7 @@ fn write_bench(bench: &Bench, output: &mut impl Write) -> io::Result<()> {
     for bits in bench.readings {
         write_reading(bits, output)?;
     }
+    write_numbers(&bench.wholes, output)?;
     for channel in bench.sides.iter().chain(&bench.inboxes) {
         write_channel(channel, output)?;
     }

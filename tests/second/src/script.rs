@@ -61,6 +61,7 @@ pub enum Damage {
     Set(Place, ModeSet),
     Reference(Place, Reference, i32),
     Reading(Kind, u64),
+    Whole(Kind, i32),
 }
 
 /// What would be right where a line went wrong.
@@ -88,7 +89,7 @@ const KIND: Problem = "a kind is altitude, airspeed, vertical-speed, roll, pitch
 const VALUE: Problem = "a value is a decimal number with at most 15 significant digits and at \
     most 15 after the point, or 0x and 16 hexadecimal digits, or nan, inf or -inf";
 const WATCH: Problem = "watch takes on or off";
-const DAMAGE: Problem = "damage takes pf, independent, reading, left, right, left-inbox or \
+const DAMAGE: Problem = "damage takes pf, independent, reading, whole, left, right, left-inbox or \
     right-inbox first";
 const PF: Problem = "damage pf takes one number from 0 to 255";
 const INDEPENDENT: Problem = "damage independent takes 0 or 1";
@@ -98,6 +99,7 @@ const TARGET: Problem = "here goes set and four numbers, or a reference and a nu
 const REFERENCE: Problem = "a reference is heading, preselected, held, vertical-speed, ias, roll \
     or pitch";
 const AMOUNT: Problem = "a reference takes a number from -2147483648 to 2147483647";
+const WHOLE: Problem = "a whole value is one number from -2147483648 to 2147483647";
 
 const AREA: Problem = "area takes one length from 0 to 2048";
 const POKE: Problem = "poke takes a start and the bytes";
@@ -106,7 +108,7 @@ const START: Problem = "here goes one start, a number from 0 to 1844674407370955
 const BYTES: Problem = "bytes are pairs of hexadecimal digits without anything between";
 
 /// The commands, for people who ask for help.
-pub const FORMS: [&str; 25] = [
+pub const FORMS: [&str; 26] = [
     "event WORD",
     "press SWITCH",
     "signal SIGNAL",
@@ -125,6 +127,7 @@ pub const FORMS: [&str; 25] = [
     "damage BOX set LATERAL ARMED VERTICAL VAPPR-ARMED",
     "damage BOX REFERENCE N",
     "damage reading KIND VALUE",
+    "damage whole KIND N",
     "watch on, watch off",
     "help",
     "area LENGTH",
@@ -256,9 +259,17 @@ fn damage(arguments: &[&[u8]]) -> Result<Damage, Problem> {
         [b"pf", rest @ ..] => one(rest, byte, PF).map(Damage::Pf),
         [b"independent", rest @ ..] => one(rest, flag, INDEPENDENT).map(Damage::Independent),
         [b"reading", rest @ ..] => reading(rest).map(|(kind, bits)| Damage::Reading(kind, bits)),
+        [b"whole", rest @ ..] => whole(rest).map(|(kind, whole)| Damage::Whole(kind, whole)),
         [name, rest @ ..] => damage_in(names::place(name).ok_or(DAMAGE)?, rest),
         [] => Err(DAMAGE),
     }
+}
+
+/// The kind is judged ahead of all that stands behind it.
+fn whole(words: &[&[u8]]) -> Result<(Kind, i32), Problem> {
+    let (name, rest) = words.split_first().ok_or(KIND)?;
+    let kind = names::kind(name).ok_or(KIND)?;
+    Ok((kind, one(rest, signed, WHOLE)?))
 }
 
 fn damage_in(place: Place, words: &[&[u8]]) -> Result<Damage, Problem> {
@@ -707,6 +718,7 @@ mod tests {
             "power-on",
             "damage pf 0",
             "damage independent 0",
+            "damage whole roll 0",
             "damage left set 0 0 0 0",
         ] {
             assert!(watched(line), "{line}");
@@ -882,6 +894,49 @@ mod tests {
     }
 
     #[test]
+    fn lines_that_are_no_whole_value() {
+        for line in [
+            "whole roll 1",
+            "damage wholes roll 1",
+            "damage Whole roll 1",
+            "damage whole",
+            "damage whole roll",
+            "damage whole 1",
+            "damage whole 1 roll",
+            "damage whole 3 1",
+            "damage whole Roll 1",
+            "damage whole speed 1",
+            "damage whole ias 1",
+            "damage whole held 1",
+            "damage whole left 1",
+            "damage whole vertical speed 1",
+            "damage whole reading roll 1",
+            "damage whole whole roll 1",
+            "damage left whole 1",
+            "damage left whole roll 1",
+            "damage reading whole 1",
+            "damage whole roll 1 2",
+            "damage whole roll 1 x",
+            "damage whole roll +1",
+            "damage whole roll --1",
+            "damage whole roll -",
+            "damage whole roll 1.0",
+            "damage whole roll 1e1",
+            "damage whole roll x",
+            "damage whole roll nan",
+            "damage whole roll 0x0000000000000000",
+            "damage whole roll 2147483648",
+            "damage whole roll -2147483649",
+            "damage whole roll 4294967296",
+            "damage whole set 1 0 1 0",
+            "damage # whole roll 1",
+            "damage whole roll # 1",
+        ] {
+            assert!(parse(line.as_bytes()).is_err(), "{line}");
+        }
+    }
+
+    #[test]
     fn a_problem_says_what_is_accepted_where_the_line_went_wrong() {
         for (line, accepted) in [
             ("even 1", "knob"),
@@ -904,6 +959,13 @@ mod tests {
             ("damage left speed 1", "ias"),
             ("damage left ias x", "-2147483648"),
             ("damage left set 6 0 1 0", "1 to 5"),
+            ("damage hole roll 1", "whole"),
+            ("damage whole", "airspeed"),
+            ("damage whole speed", "airspeed"),
+            ("damage whole speed x 1", "airspeed"),
+            ("damage whole roll", "2147483647"),
+            ("damage whole roll x", "-2147483648"),
+            ("damage whole roll 1 2", "one number"),
             ("are 1", "area"),
             ("area 2049", "2048"),
             ("poke 0", "start"),
@@ -942,6 +1004,19 @@ mod tests {
             (
                 "reading pitch nan",
                 Damage::Reading(Kind::Pitch, float::NAN),
+            ),
+            ("whole altitude -7", Damage::Whole(Kind::Altitude, -7)),
+            ("whole airspeed 091", Damage::Whole(Kind::Airspeed, 91)),
+            ("whole roll -0", Damage::Whole(Kind::Roll, 0)),
+            ("whole pitch 0", Damage::Whole(Kind::Pitch, 0)),
+            ("whole heading 360", Damage::Whole(Kind::Heading, 360)),
+            (
+                "whole vertical-speed -2147483648",
+                Damage::Whole(Kind::VerticalSpeed, i32::MIN),
+            ),
+            (
+                "whole heading 2147483647",
+                Damage::Whole(Kind::Heading, i32::MAX),
             ),
         ];
         for (words, expected) in pairs {

@@ -8,6 +8,7 @@ mod rules;
 mod scripts;
 mod sheet;
 mod walk;
+mod wholes;
 mod words;
 
 use crate::bench::{Bench, Kind, Reference, Refusal};

@@ -1,6 +1,6 @@
 //! Benches damaged in every way that refusal 1 names, each with one call of every kind.
 
-use super::words::{self, Set, BOXES, KINDS, REFERENCES};
+use super::words::{self, Ranged, Set, BOXES, KINDS, REFERENCES};
 use crate::gate::{Gate, Stop};
 use crate::say;
 use crate::script::Script;
@@ -137,22 +137,30 @@ fn of_readings() -> Vec<String> {
                 .map(|&value| words::pattern(value)),
         );
         values.extend(["nan", "inf", "-inf", "0x7ff0000000000001"].map(String::from));
-        damages.extend(
-            values
-                .iter()
-                .map(|value| format!("reading {} {value}", kind.name)),
-        );
+        damages.extend(values.iter().map(|value| of_reading(kind, value)));
     }
     damages
 }
 
+/// The float together with its whole value, so that its range alone decides.
+fn of_reading(kind: Ranged, value: &str) -> String {
+    words::stored(kind, value)
+        .map(|line| line.replacen("damage ", "", 1))
+        .join(" and ")
+}
+
 /// Several damages at once, and a damage that a second one undoes.
-const TWICE: [&str; 14] = [
+const TWICE: [&str; 19] = [
     "pf 2 and reading roll nan",
     "left set 1 0 7 0 and right ias 401",
     "reading altitude inf and reading heading 361",
     "reading heading 361 and reading heading 360",
-    "reading roll 181 and reading roll 180",
+    "reading roll 181 and reading roll 180 and whole roll -180",
+    "reading roll 181 and reading roll 180 and whole roll 180",
+    "whole pitch 1 and whole pitch 0",
+    "whole pitch 1 and reading pitch 1",
+    "whole altitude 1 and whole vertical-speed -1",
+    "whole heading 1 and pf 2",
     "pf 7 and pf 1",
     "right-inbox set 5 2 8 0 and right-inbox set 5 2 8 1",
     "left-inbox pitch 21 and left-inbox pitch 20",
@@ -176,9 +184,10 @@ mod tests {
         let readings = 6 * (2 * 7 * 3 + 5 + 3 + 4) + 2 * 2 * 3;
         assert_eq!(damages().len(), 8 + 2 + boxes + readings + TWICE.len());
         let lines = CALLS.len() + 2;
+        // A reading is damaged together with its whole value.
         let surplus: usize = TWICE.iter().map(|all| all.matches(" and ").count()).sum();
         for start in STARTS {
-            let expected = damages().len() * (start.len() + 1 + lines) + surplus;
+            let expected = damages().len() * (start.len() + 1 + lines) + readings + surplus;
             assert_eq!(script(start).commands(), expected);
         }
     }
@@ -215,12 +224,17 @@ mod tests {
             "pitch",
             "heading",
         ] {
-            for value in ["nan", "inf", "-inf"] {
-                assert!(all.contains(&format!("reading {kind} {value}")));
+            for (value, whole) in [("nan", 0), ("inf", i32::MAX), ("-inf", i32::MIN)] {
+                let damage = format!("reading {kind} {value} and whole {kind} {whole}");
+                assert!(all.contains(&damage), "{damage}");
             }
         }
-        for value in ["altitude 0x40eb581000000000", "altitude 0x40eb581000000001"] {
-            assert!(all.contains(&format!("reading {value}")), "{value}");
+        for (value, whole) in [
+            ("0x40eb581000000000", 56_000),
+            ("0x40eb581000000001", 56_001),
+        ] {
+            let damage = format!("reading altitude {value} and whole altitude {whole}");
+            assert!(all.contains(&damage), "{damage}");
         }
     }
 
@@ -232,8 +246,9 @@ mod tests {
             ("roll", [-180.5, 179.5, 180.0, 180.5, 181.0]),
         ] {
             for value in values.into_iter().flat_map(words::patterns_at) {
-                let damage = format!("reading {kind} {value}");
-                assert!(all.contains(&damage), "{damage}");
+                let damage = format!("reading {kind} {value} and whole {kind} ");
+                let found = all.iter().any(|other| other.starts_with(&damage));
+                assert!(found, "{damage}");
             }
         }
     }

@@ -313,7 +313,7 @@ fn independent() -> Vec<State> {
     states
 }
 
-/// Damage away from what the panels show, on a bench with much to show; and one that is mended.
+/// Damage away from what the panels show, on a bench with much to show; and some that is mended.
 fn damaged() -> Vec<State> {
     let mut damages: Vec<String> = [2, 3, 128, 255].map(|pf| format!("pf {pf}")).to_vec();
     damages.push("independent 1".to_string());
@@ -327,6 +327,8 @@ fn damaged() -> Vec<State> {
         damages.extend([
             format!("reading {} nan", kind.name),
             format!("reading {} {}", kind.name, kind.last + 1),
+            format!("whole {} 1", kind.name),
+            format!("whole {} {}", kind.name, i32::MIN),
         ]);
     }
     let mut states = Vec::new();
@@ -337,9 +339,11 @@ fn damaged() -> Vec<State> {
         state.extend(lines(&["press ap", "knob heading 5"]));
         states.push(state);
     }
-    let mut mended = lines(&WALK[..9]);
-    mended.extend(lines(&["damage pf 2", "damage pf 1"]));
-    states.push(mended);
+    for (damage, mend) in [("pf 2", "pf 1"), ("whole roll 1", "whole roll 0")] {
+        let mut mended = lines(&WALK[..9]);
+        mended.extend([damage, mend].map(|part| format!("damage {part}")));
+        states.push(mended);
+    }
     states
 }
 
@@ -560,7 +564,7 @@ mod tests {
         let with_sets = 241 * 4;
         let with_references = 2 * (7 * (8 * 2 + 6) + 16);
         let independent = SHARED * 9 * 2;
-        let damaged = 2 * (4 + 1 + 4 + 12) + 1;
+        let damaged = 2 * (4 + 1 + 4 + 24) + 2;
         let fixed = 1 + SHARED + with_sets + with_references + independent + damaged + WALK.len();
         let by_chance = states.len() - fixed;
         assert!(by_chance > LISTS as usize * LENGTH / 2, "{by_chance}");

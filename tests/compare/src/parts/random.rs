@@ -9,7 +9,7 @@ use std::collections::{BTreeMap, BTreeSet, VecDeque};
 use self::approach::Step;
 use self::bus::Bus;
 use super::shown::Shown;
-use super::words::{self, Set, BOXES, EVENT_COUNT, KINDS, KNOBS, REFERENCES, SIDES};
+use super::words::{self, Ranged, Set, BOXES, EVENT_COUNT, KINDS, KNOBS, REFERENCES, SIDES};
 use crate::compare;
 use crate::gate::{Gate, Stop};
 use crate::rng::Rng;
@@ -114,6 +114,7 @@ pub fn list(seed: u64, number: u64, length: usize) -> Script {
         bus: Bus::default(),
         calm: number.is_multiple_of(2),
         until_power_on: None,
+        next: None,
         planned: VecDeque::new(),
     };
     let mut script = Script::default();
@@ -132,6 +133,8 @@ struct Maker {
     calm: bool,
     /// After a damage, how many calls come ahead of the next power-on.
     until_power_on: Option<usize>,
+    /// A damage that belongs to the one before it.
+    next: Option<String>,
     /// What is left of a sequence that was begun.
     planned: VecDeque<Step>,
 }
@@ -158,6 +161,9 @@ const CALM: [(usize, Make); 14] = [
 
 /// How many of a hundred lines go on with a sequence that was begun.
 const PLANNED: usize = 97;
+
+/// How many of a hundred damaged readings get their whole value too.
+const WITH_WHOLE: usize = 80;
 
 /// How many of a hundred events, knobs and sides are named where they can be.
 const NAMED: usize = 40;
@@ -204,6 +210,9 @@ impl Maker {
             Some(calls) => self.until_power_on = Some(calls - 1),
             None => {}
         }
+        if let Some(line) = self.next.take() {
+            return line;
+        }
         if !self.calm && self.rng.below(50) == 0 {
             return self.rng.weighted(&ROUGH)(self);
         }
@@ -230,6 +239,7 @@ impl Maker {
 
     fn power_on(&mut self) -> String {
         self.until_power_on = None;
+        self.next = None;
         self.counts = [0; 4];
         "power-on".to_string()
     }
@@ -286,12 +296,13 @@ impl Maker {
     }
 
     fn reading(&mut self) -> String {
+        let (kind, value) = self.kind_and_value();
+        format!("reading {} {value}", kind.name)
+    }
+
+    fn kind_and_value(&mut self) -> (Ranged, String) {
         let kind = self.rng.pick(&KINDS);
-        format!(
-            "reading {} {}",
-            kind.name,
-            values::value(kind, &mut self.rng)
-        )
+        (kind, values::value(kind, &mut self.rng))
     }
 
     fn on_side(&mut self, command: &str) -> String {
@@ -315,15 +326,41 @@ impl Maker {
     }
 
     fn damage(&mut self) -> String {
-        self.until_power_on.get_or_insert(1 + self.rng.below(8));
+        // Room for the damage that belongs to this one and for a call after both.
+        self.until_power_on.get_or_insert(2 + self.rng.below(7));
         let place = self.rng.pick(&BOXES);
-        match self.rng.below(9) {
+        match self.rng.below(11) {
             0 => format!("damage pf {}", self.rng.pick(&[0, 1, 1, 2, 255])),
             8 => format!("damage independent {}", self.rng.below(2)),
-            1 => self.reading().replacen("reading", "damage reading", 1),
+            9 => self.damaged_whole(),
+            1 | 10 => self.damaged_reading(),
             2..=4 => self.damaged_reference(place),
             _ => format!("damage {place} set {}", self.any_set()),
         }
+    }
+
+    /// A float put into the bench, mostly with its whole value after it; then it is the range that
+    /// decides whether the bench is sound.
+    fn damaged_reading(&mut self) -> String {
+        let (kind, value) = self.kind_and_value();
+        let [float, whole] = words::stored(kind, &value);
+        if self.rng.percent(WITH_WHOLE) {
+            self.next = Some(whole);
+        }
+        float
+    }
+
+    /// A whole value for some float, right or wrong. Mostly that float is put into the bench ahead
+    /// of it; else it is seldom right.
+    fn damaged_whole(&mut self) -> String {
+        let (kind, value) = self.kind_and_value();
+        let whole = values::whole(kind, &value, &mut self.rng);
+        let line = format!("damage whole {} {whole}", kind.name);
+        if self.rng.percent(40) {
+            return line;
+        }
+        self.next = Some(line);
+        format!("damage reading {} {value}", kind.name)
     }
 
     fn damaged_reference(&mut self, place: &str) -> String {
@@ -347,7 +384,7 @@ impl Maker {
 }
 
 /// Each is answered by an error.
-const ERRORS: [&str; 36] = [
+const ERRORS: [&str; 39] = [
     "event",
     "event x",
     "event 4294967296",
@@ -372,6 +409,9 @@ const ERRORS: [&str; 36] = [
     "damage left set 6 0 1 0",
     "damage independent 2",
     "damage left ias 2147483648",
+    "damage whole roll",
+    "damage whole ias 1",
+    "damage whole roll 2147483648",
     "area",
     "area 2049",
     "poke 0",
@@ -517,6 +557,34 @@ mod tests {
             "damage left set 0 0 0 0",
         ] {
             assert!(lines.contains(line), "{line}");
+        }
+    }
+
+    #[test]
+    fn most_floats_are_put_into_the_bench_with_their_whole_values() {
+        let script = list(1, 1, 300_000);
+        let lines: Vec<&str> = text(&script).lines().collect();
+        let (mut own, mut other, mut alone) = (0, 0, 0);
+        for pair in lines.windows(2) {
+            let Some(stored) = pair[0].strip_prefix("damage reading ") else {
+                continue;
+            };
+            let (name, value) = stored.split_once(' ').unwrap();
+            let kind = KINDS.into_iter().find(|kind| kind.name == name).unwrap();
+            match pair[1].strip_prefix(&format!("damage whole {name} ")) {
+                Some(whole) if whole == kind.whole(words::float(value)).to_string() => own += 1,
+                Some(_) => other += 1,
+                None => alone += 1,
+            }
+        }
+        assert!(
+            own > 200 && other > 50 && alone > 50,
+            "{own} {other} {alone}"
+        );
+        for kind in KINDS {
+            let line = format!("damage whole {} ", kind.name);
+            let found = lines.iter().filter(|other| other.starts_with(&line));
+            assert!(found.count() > 50, "{line}");
         }
     }
 

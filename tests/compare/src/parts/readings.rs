@@ -28,7 +28,7 @@ fn of_kind(kind: Ranged, rng: &mut Rng) -> Script {
     let mut script = Script::default();
     for value in edge_values(kind) {
         say_reading(&mut script, kind.name, &value);
-        say_stored(&mut script, kind.name, &value);
+        say_stored(&mut script, kind, &value);
     }
     for value in values_at_seams() {
         say_seam(&mut script, kind, &value);
@@ -55,10 +55,14 @@ fn say_reading(script: &mut Script, kind: &str, value: &str) {
     script.line("display 0");
 }
 
-/// The float put into the bench whatever its range, and whether the bench is then sound.
-fn say_stored(script: &mut Script, kind: &str, value: &str) {
+/// The float put into the bench whatever its range, and whether the bench is then sound: with the
+/// whole value of power-on beside it, and with its own.
+fn say_stored(script: &mut Script, kind: Ranged, value: &str) {
     script.line("power-on");
-    say!(script, "damage reading {kind} {value}");
+    let [float, whole] = words::stored(kind, value);
+    script.line(float);
+    script.line("event 0");
+    script.line(whole);
     script.line("bench");
     script.line("event 64");
     script.line("display 0");
@@ -73,16 +77,19 @@ fn say_half(script: &mut Script, kind: Ranged, value: &str) {
 
 /// The same float given to the bench and put into it, each with what the bench keeps and loads.
 fn say_seam(script: &mut Script, kind: Ranged, value: &str) {
-    for command in ["reading", "damage reading"] {
+    let given = vec![format!("reading {} {value}", kind.name)];
+    for lines in [given, words::stored(kind, value).to_vec()] {
         script.line("power-on");
-        say!(script, "{command} {} {value}", kind.name);
+        for line in lines {
+            script.line(line);
+        }
         script.line("bench");
         say_entry(script, kind);
     }
 }
 
 /// Entry to the mode that loads a kind; for heading, which none loads, any call.
-fn say_entry(script: &mut Script, kind: Ranged) {
+pub fn say_entry(script: &mut Script, kind: Ranged) {
     let event = match kind.name {
         "altitude" => 19,
         "airspeed" => 18,
@@ -372,12 +379,15 @@ mod tests {
         for (kind, event) in KINDS.into_iter().zip(events) {
             let all = text(&of_kind(kind, &mut rng()));
             for value in values_at_seams() {
-                let told = format!(
-                    "reading {} {value}\nbench\nevent {event}\ndisplay 0",
-                    kind.name
+                let name = kind.name;
+                let whole = kind.whole(words::float(&value));
+                let shown = format!("bench\nevent {event}\ndisplay 0");
+                let both = format!(
+                    "power-on\nreading {name} {value}\n{shown}\n\
+                     power-on\ndamage reading {name} {value}\n\
+                     damage whole {name} {whole}\n{shown}\n"
                 );
-                let both = format!("power-on\n{told}\npower-on\ndamage {told}\n");
-                assert!(all.contains(&both), "{} {value}", kind.name);
+                assert!(all.contains(&both), "{name} {value}");
             }
         }
     }
@@ -388,7 +398,7 @@ mod tests {
             let edges = edge_values(kind).len();
             let seams = values_at_seams().len();
             let others = 4 * halves(kind).len() + 8 * READ_DECIMALS;
-            let expected = 13 * edges + 10 * seams + others;
+            let expected = 15 * edges + 11 * seams + others;
             assert_eq!(of_kind(kind, &mut rng()).commands(), expected);
         }
         assert_eq!(stored_decimals(&mut rng()).commands(), 12_000 / 6 * 7);
@@ -418,6 +428,15 @@ mod tests {
         }
         assert_eq!(seen.iter().filter(|lengths| lengths.0 == 15).count(), 16);
         assert!(seen.len() > 200);
+    }
+
+    #[test]
+    fn a_stored_float_is_judged_with_two_whole_values() {
+        let mut script = Script::default();
+        say_stored(&mut script, KINDS[3], "179.5");
+        let expected = "power-on\ndamage reading roll 179.5\nevent 0\ndamage whole roll -180\n\
+            bench\nevent 64\ndisplay 0\n";
+        assert_eq!(text(&script), expected);
     }
 
     #[test]

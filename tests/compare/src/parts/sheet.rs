@@ -1,4 +1,4 @@
-//! The bench sheet of document 01 as the requests up to 2026-03 left it: each case as a script from
+//! The bench sheet of document 01 as the requests up to 2026-05 left it: each case as a script from
 //! power-on, with the answers that the paper gives. A display also has what the paper says of
 //! power-on, references and lamps.
 
@@ -58,7 +58,8 @@ const CASE_1: Case = &[
     ("display 0", "display 0 1 1 4 0 0 0 0 14 90 0 0 160"),
 ];
 
-/// North by its second number is accepted; the refused headings leave it in the bench as it came.
+/// North by its second number is accepted; the refused headings leave it in the bench as it came,
+/// with the whole value 0 beside it.
 const CASE_2: Case = &[
     ("reading heading 359.25", "reading 0"),
     ("reading heading 359.5", "reading 0"),
@@ -67,7 +68,7 @@ const CASE_2: Case = &[
     (
         "bench",
         "bench 0 0 0 0 0 0 0 0 0x0000000000000000 0x4056800000000000 0x0000000000000000 \
-         0x0000000000000000 0x0000000000000000 0x4076780000000000 \
+         0x0000000000000000 0x0000000000000000 0x4076780000000000 0 90 0 0 0 0 \
          0 0 0 0 0 0 0 0 0 90 0 0 0 0 0 0 0 0 0 0 0 90 0 0 \
          0 0 0 0 0 0 0 0 0 90 0 0 0 0 0 0 0 0 0 0 0 90 0 0",
     ),
@@ -202,7 +203,7 @@ mod tests {
         for (command, answer) in CASES.into_iter().flatten() {
             let expected = match command.split(' ').next() {
                 Some("display") => 14,
-                Some("bench") => 1 + 4 + 4 + 6 + 4 * 12,
+                Some("bench") => 1 + 4 + 4 + 6 + 6 + 4 * 12,
                 Some("event") => 3,
                 Some("pick") => 4,
                 _ => 2,

@@ -4,8 +4,9 @@ use std::str;
 
 use super::words::Set;
 
-/// The words ahead of the boxes: pilot flying and three flags, four counts and six readings.
-const AHEAD: usize = 1 + 3 + 4 + 6;
+/// The words ahead of the boxes: pilot flying and three flags, four counts, six readings and their
+/// six whole values.
+const AHEAD: usize = 1 + 3 + 4 + 6 + 6;
 
 /// The words of a box: flight director, the four numbers of its set and seven references.
 const BOX: usize = 1 + 4 + 7;
@@ -75,7 +76,8 @@ pub mod tests {
         };
         let held = |index: usize| format!("{} {} {references}", bit(inbox[index]), Set::OFF);
         format!(
-            "bench {pf} {ap} {overspeed} {independent} 0 0 0 0 a b c d e nan {} {} {} {}\n",
+            "bench {pf} {ap} {overspeed} {independent} 0 0 0 0 a b c d e nan 0 90 0 0 0 0 \
+             {} {} {} {}\n",
             side(0),
             side(1),
             held(0),
@@ -117,6 +119,7 @@ pub mod tests {
             good.replacen("bench 1 0 1 0", "bench 1 0 1", 1),
             good.replacen("bench 1 0 1 0", "bench 1 0 1 2", 1),
             good.replacen("bench 1", "bench 256", 1),
+            good.replacen("nan 0 90 0 0 0 0", "nan", 1),
             good.replacen("2 0 1 0", "2 0 x 0", 1),
         ] {
             assert_ne!(bad, good);

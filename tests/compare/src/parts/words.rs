@@ -28,6 +28,25 @@ const fn circle(name: &'static str, low: i32, high: i32) -> Ranged {
     Ranged { last, ..row }
 }
 
+impl Ranged {
+    /// The whole value of a float as a reading of this kind, in range or not: the nearest integer,
+    /// a tie to the even one, and the low end for its second number. Where there is none that fits
+    /// in 32 bits, it is what a conversion that keeps to them gives.
+    pub fn whole(self, value: f64) -> i32 {
+        let nearest = value.round_ties_even() as i32;
+        if nearest == self.last && self.last != self.high {
+            self.low
+        } else {
+            nearest
+        }
+    }
+
+    /// Whether a reading of this kind is accepted.
+    pub fn accepts(self, value: f64) -> bool {
+        value.is_finite() && (self.low..=self.high).contains(&self.whole(value))
+    }
+}
+
 pub const KINDS: [Ranged; 6] = [
     ranged("altitude", -8_000, 56_000),
     ranged("airspeed", 0, 600),
@@ -154,6 +173,25 @@ pub fn pattern(value: f64) -> String {
     format!("0x{:016x}", value.to_bits())
 }
 
+/// The float of a value as scripts write it.
+pub fn float(value: &str) -> f64 {
+    let written = match value.strip_prefix("0x") {
+        Some(digits) => u64::from_str_radix(digits, 16).ok().map(f64::from_bits),
+        None => value.parse().ok(),
+    };
+    written.unwrap_or_else(|| panic!("{value} is no value"))
+}
+
+/// The damage that puts a float into the bench together with its whole value, so that the bench is
+/// sound if the float is in range (document 02, 2026-05).
+pub fn stored(kind: Ranged, value: &str) -> [String; 2] {
+    let (name, whole) = (kind.name, kind.whole(float(value)));
+    [
+        format!("damage reading {name} {value}"),
+        format!("damage whole {name} {whole}"),
+    ]
+}
+
 /// The patterns of a float and of the two floats beside it.
 pub fn patterns_at(value: f64) -> [String; 3] {
     [value.next_down(), value, value.next_up()].map(pattern)
@@ -191,6 +229,60 @@ mod tests {
         assert_eq!(by_name(INDEPENDENT), "press independent");
         assert_eq!(by_name(0), "press ap-disconnect");
         assert_eq!(by_name(13), "signal altsel-on-track");
+    }
+
+    #[test]
+    fn whole_values_are_those_of_the_papers() {
+        for (kind, value, whole, accepted) in [
+            ("altitude", 12.5, 12, true),
+            ("altitude", 13.5, 14, true),
+            ("altitude", -0.5, 0, true),
+            ("altitude", 56_000.5, 56_000, true),
+            ("altitude", 56_001.0, 56_001, false),
+            ("airspeed", 360.0, 360, true),
+            ("vertical-speed", 180.0, 180, true),
+            ("roll", 179.25, 179, true),
+            ("roll", 179.5, -180, true),
+            ("roll", 180.5, -180, true),
+            ("roll", 181.0, 181, false),
+            ("roll", -180.5, -180, true),
+            ("roll", -181.0, -181, false),
+            ("pitch", 89.5, 90, false),
+            ("heading", 359.25, 359, true),
+            ("heading", 359.5, 0, true),
+            ("heading", 360.5, 0, true),
+            ("heading", 361.0, 361, false),
+            ("heading", -0.75, -1, false),
+            ("heading", f64::NAN, 0, false),
+            ("heading", f64::INFINITY, i32::MAX, false),
+            ("heading", -1e300, i32::MIN, false),
+        ] {
+            let kind = KINDS.into_iter().find(|row| row.name == kind).unwrap();
+            let told = (kind.whole(value), kind.accepts(value));
+            assert_eq!(told, (whole, accepted), "{} {value}", kind.name);
+        }
+    }
+
+    #[test]
+    fn values_are_read_as_scripts_write_them() {
+        for (value, expected) in [
+            ("-12.5", -12.5),
+            ("0x4076780000000000", 359.5),
+            ("-inf", f64::NEG_INFINITY),
+            ("999999999999999", 999_999_999_999_999.0),
+        ] {
+            assert_eq!(float(value), expected);
+        }
+        assert!(float("nan").is_nan() && float("0x7ff0000000000001").is_nan());
+        assert!(float("-0").is_sign_negative());
+    }
+
+    #[test]
+    fn a_float_is_stored_with_its_whole_value() {
+        let north = ["damage reading heading 359.5", "damage whole heading 0"];
+        assert_eq!(stored(KINDS[5], "359.5"), north);
+        let past = ["damage reading roll 181", "damage whole roll 181"];
+        assert_eq!(stored(KINDS[3], "181"), past);
     }
 
     #[test]

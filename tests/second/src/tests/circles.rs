@@ -96,9 +96,10 @@ fn all() -> Vec<(Kind, f64, Option<i32>)> {
     tables.flat_map(rows).collect()
 }
 
-fn damaged(kind: Kind, value: f64) -> Bench {
+/// The bench at power-on with a reading in it that was not given to it.
+fn damaged(kind: Kind, value: f64, whole: i32) -> Bench {
     let mut bench = Bench::power_on();
-    bench.readings[kind as usize] = value.to_bits();
+    bench.keep(kind, value.to_bits(), whole);
     bench
 }
 
@@ -110,7 +111,7 @@ fn a_reading_goes_by_its_whole_value_and_is_kept_as_it_came() {
         let mut bench = Bench::power_on();
         assert_eq!(read(&mut bench, kind, value), expected.map(|_| ()));
         let kept = match whole {
-            Some(_) => damaged(kind, value),
+            Some(whole) => damaged(kind, value, whole),
             None => Bench::power_on(),
         };
         assert_eq!(bench, kept, "{kind:?} {value}");
@@ -120,21 +121,24 @@ fn a_reading_goes_by_its_whole_value_and_is_kept_as_it_came() {
 #[test]
 fn a_stored_reading_is_sound_by_its_whole_value() {
     for (kind, value, whole) in all() {
-        let mut bench = damaged(kind, value);
-        if whole.is_none() {
-            assert_unsound(bench);
+        let Some(whole) = whole else {
+            // What it would be without a range, and what it could be taken for.
+            for whole in [value.round_ties_even() as i32, 0, -180, 179, 359] {
+                assert_unsound(damaged(kind, value, whole));
+            }
             continue;
-        }
+        };
+        let mut bench = damaged(kind, value, whole);
         assert!(bench.is_sound(), "{kind:?} {value}");
         assert_eq!(calls::event(&mut bench, 0), Ok(32));
         assert_eq!(read(&mut bench, kind, value), Ok(()));
-        assert_eq!(bench, damaged(kind, value));
+        assert_eq!(bench, damaged(kind, value, whole));
     }
 }
 
 /// What a reading loads by the switch that engages its mode, from a bench that
 /// was given it and from one that was damaged with it.
-fn assert_loads(kind: Kind, value: f64, expected: i32) {
+fn assert_loads(kind: Kind, value: f64, whole: i32, expected: i32) {
     let (word, reference) = match kind {
         Kind::Roll => (1 << 6, Reference::Roll),
         Kind::VerticalSpeed => (1 << 17, Reference::VerticalSpeed),
@@ -144,7 +148,7 @@ fn assert_loads(kind: Kind, value: f64, expected: i32) {
     };
     let mut bench = Bench::power_on();
     read(&mut bench, kind, value).unwrap();
-    for mut bench in [bench, damaged(kind, value)] {
+    for mut bench in [bench, damaged(kind, value, whole)] {
         events(&mut bench, &[word]);
         let loaded = shown(&bench, 0).references[reference as usize];
         assert_eq!(loaded, expected, "{kind:?} {value}");
@@ -155,20 +159,20 @@ fn assert_loads(kind: Kind, value: f64, expected: i32) {
 fn entry_loads_the_whole_value_clamped() {
     for (value, whole) in rolls() {
         if let Some(whole) = whole {
-            assert_loads(Kind::Roll, value, whole.clamp(-27, 27));
+            assert_loads(Kind::Roll, value, whole, whole.clamp(-27, 27));
         }
     }
-    for (kind, value, expected) in [
-        (Kind::Roll, 179.25, 27),
-        (Kind::Roll, 179.75, -27),
-        (Kind::Altitude, 359.5, 360),
-        (Kind::Altitude, 360.0, 360),
-        (Kind::Altitude, 180.0, 180),
-        (Kind::Airspeed, 360.0, 360),
-        (Kind::Airspeed, 180.0, 180),
-        (Kind::VerticalSpeed, 180.0, 50),
-        (Kind::VerticalSpeed, -180.0, -50),
+    for (kind, value, whole, expected) in [
+        (Kind::Roll, 179.25, 179, 27),
+        (Kind::Roll, 179.75, -180, -27),
+        (Kind::Altitude, 359.5, 360, 360),
+        (Kind::Altitude, 360.0, 360, 360),
+        (Kind::Altitude, 180.0, 180, 180),
+        (Kind::Airspeed, 360.0, 360, 360),
+        (Kind::Airspeed, 180.0, 180, 180),
+        (Kind::VerticalSpeed, 180.0, 180, 50),
+        (Kind::VerticalSpeed, -180.0, -180, -50),
     ] {
-        assert_loads(kind, value, expected);
+        assert_loads(kind, value, whole, expected);
     }
 }

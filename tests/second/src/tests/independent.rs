@@ -348,7 +348,7 @@ fn sends_and_readings_are_as_ever() {
         calls::send(&mut bench, side as u32).unwrap();
         assert_eq!(bench, expected);
         read(&mut bench, Kind::Roll, 5.5).unwrap();
-        expected.readings[Kind::Roll as usize] = 5.5_f64.to_bits();
+        expected.keep(Kind::Roll, 5.5_f64.to_bits(), 6);
         assert_eq!(bench, expected);
     }
 }

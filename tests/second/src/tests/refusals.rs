@@ -117,18 +117,23 @@ fn refusal_1_ranges_of_references() {
     }
 }
 
+/// What 5 or 6 would turn away is unsound with every whole value, also with the
+/// one that it would have without a range.
 #[test]
 fn refusal_1_stored_readings() {
     for kind in Kind::ALL {
         for bits in [
             INFINITE,
+            INFINITE | 1 << 63,
             float::NAN,
             (-1e5_f64).to_bits(),
             1e5_f64.to_bits(),
         ] {
-            let mut bench = after(&[1 << 14]);
-            bench.readings[kind as usize] = bits;
-            assert_unsound(bench);
+            for whole in [0, 90, -100_000, 100_000, i32::MIN, i32::MAX] {
+                let mut bench = after(&[1 << 14]);
+                bench.keep(kind, bits, whole);
+                assert_unsound(bench);
+            }
         }
     }
 }

@@ -27,7 +27,7 @@ fn the_bench_at_power_on() {
     let channel = "0 0 0 0 0 0 0 0 0 90 0 0";
     let expected = format!(
         "bench 0 0 0 0 0 0 0 0 {zero} 0x4056800000000000 {zero} {zero} {zero} {zero} \
-         {channel} {channel} {channel} {channel}\n"
+         0 90 0 0 0 0 {channel} {channel} {channel} {channel}\n"
     );
     assert_eq!(answers(b"bench\n"), expected);
 }
@@ -36,15 +36,16 @@ fn the_bench_at_power_on() {
 fn a_damaged_bench_is_written_as_it_is_and_refused() {
     let script = b"damage pf 200\ndamage left set 3 1 7 1\ndamage right ias -5\n\
         damage left-inbox set 4 2 6 0\ndamage right-inbox pitch 2147483647\n\
-        damage reading pitch 0xffffffffffffffff\ndamage reading roll -inf\nbench\n\
+        damage reading pitch 0xffffffffffffffff\ndamage reading roll -inf\n\
+        damage whole roll -2147483648\ndamage whole heading 360\nbench\n\
         event 1\nreading roll nan\ndisplay 2\n";
     let zero = "0x0000000000000000";
     let expected = format!(
         "{}bench 200 0 0 0 0 0 0 0 {zero} 0x4056800000000000 {zero} 0xfff0000000000000 nan {zero} \
-         0 3 1 7 1 0 0 0 0 90 0 0 0 0 0 0 0 0 0 0 0 -5 0 0 \
+         0 90 0 -2147483648 0 360 0 3 1 7 1 0 0 0 0 90 0 0 0 0 0 0 0 0 0 0 0 -5 0 0 \
          0 4 2 6 0 0 0 0 0 90 0 0 0 0 0 0 0 0 0 0 0 90 0 2147483647\n\
          event 1 32\nreading 1\ndisplay 1 0 0 0 0 0 0 0 0 0 0 0 0\n",
-        "damage 0\n".repeat(7)
+        "damage 0\n".repeat(9)
     );
     assert_eq!(answers(script), expected);
 }
@@ -95,6 +96,115 @@ fn independent_operation_is_damaged_on_and_off() {
         answers(wrong.as_bytes()).lines().last().unwrap(),
         2
     ));
+}
+
+/// The six whole values that `bench` shows after a script.
+fn wholes_after(script: &str) -> String {
+    let output = answers(format!("{script}\nbench\n").as_bytes());
+    let last = output.lines().last().unwrap();
+    last.split(' ')
+        .skip(1 + 4 + 4 + 6)
+        .take(6)
+        .collect::<Vec<_>>()
+        .join(" ")
+}
+
+#[test]
+fn whole_values_stand_after_the_readings_in_their_order() {
+    assert_eq!(wholes_after(""), "0 90 0 0 0 0");
+    let script = "reading altitude -7.5\nreading airspeed 251.5\nreading vertical-speed 33.5\n\
+        reading roll 179.75\nreading pitch -0.5\nreading heading 359.5";
+    assert_eq!(wholes_after(script), "-8 252 34 -180 0 0");
+    let refused = "reading altitude 56001\nreading airspeed nan\nreading roll 180.75\n\
+        reading heading -1\nreading pitch inf";
+    assert_eq!(
+        wholes_after(&format!("{script}\n{refused}")),
+        "-8 252 34 -180 0 0"
+    );
+    assert_eq!(wholes_after(&format!("{script}\npower-on")), "0 90 0 0 0 0");
+}
+
+#[test]
+fn whole_values_are_damaged_each_alone() {
+    for (kind, expected) in [
+        ("altitude", "-7 90 0 0 0 0"),
+        ("airspeed", "0 -7 0 0 0 0"),
+        ("vertical-speed", "0 90 -7 0 0 0"),
+        ("roll", "0 90 0 -7 0 0"),
+        ("pitch", "0 90 0 0 -7 0"),
+        ("heading", "0 90 0 0 0 -7"),
+    ] {
+        let damage = format!("damage whole {kind} -7");
+        assert_eq!(wholes_after(&damage), expected);
+        let reading = format!("damage reading {kind} -7");
+        assert_eq!(wholes_after(&reading), "0 90 0 0 0 0");
+        // The float stays, and so does all else.
+        let mended = format!(
+            "{damage}\ndamage whole {kind} {}",
+            if kind == "airspeed" { 90 } else { 0 }
+        );
+        let last = |script: &str| {
+            answers(script.as_bytes())
+                .lines()
+                .last()
+                .unwrap()
+                .to_string()
+        };
+        assert_eq!(last(&format!("{mended}\nbench\n")), last("bench\n"));
+    }
+    let ends = "damage whole roll 2147483647\ndamage whole pitch -2147483648";
+    assert_eq!(wholes_after(ends), "0 90 0 2147483647 -2147483648 0");
+}
+
+#[test]
+fn a_damaged_whole_value_is_refused_until_it_is_mended() {
+    let calls = "event 4294967295\nturn 4 1\nreading roll nan\nreading airspeed 100\nsend 2\n\
+        refresh 0\ndisplay 0\npick 1\nwrite 0 0\nwrite 2 99\nbytes\n";
+    let refused = format!(
+        "event 1 32\nturn 1\nreading 1\nreading 1\nsend 1\nrefresh 1\ndisplay 1{}\n\
+         pick 1 0 0\nwrite 1\nwrite 1\nbytes {}\n",
+        " 0".repeat(12),
+        "00".repeat(19)
+    );
+    let script = format!(
+        "area 19\nreading airspeed 250.5\ndamage whole airspeed 251\n{calls}\
+         damage whole airspeed 250\npress flc\ndisplay 0\n\
+         damage reading airspeed 251\n{calls}damage whole airspeed 251\nevent 0\n"
+    );
+    let expected = format!(
+        "area 0\nreading 0\ndamage 0\n{refused}damage 0\nevent 0 18\n\
+         display 0 1 1 3 4 0 0 0 0 250 0 0 144\ndamage 0\n{refused}damage 0\nevent 0 32\n"
+    );
+    assert_eq!(answers(script.as_bytes()), expected);
+}
+
+#[test]
+fn a_float_damaged_within_its_whole_value_is_accepted() {
+    for (kind, values) in [
+        ("altitude", ["0.25", "-0.5", "0.5", "0x0000000000000001"]),
+        ("airspeed", ["90.25", "89.5", "90.5", "90"]),
+        ("heading", ["359.5", "360", "360.5", "-0"]),
+    ] {
+        for value in values {
+            let script = format!("damage reading {kind} {value}\nevent 0\n");
+            assert_eq!(answers(script.as_bytes()), "damage 0\nevent 0 32\n");
+        }
+    }
+}
+
+#[test]
+fn a_wrong_line_damages_no_whole_value() {
+    for line in [
+        "damage whole",
+        "damage whole roll",
+        "damage whole roll 2147483648",
+        "damage whole roll 1 2",
+        "damage whole speed 1",
+        "damage hole roll 1",
+    ] {
+        assert_eq!(wholes_after(line), "0 90 0 0 0 0", "{line}");
+        assert!(is_error(&answers(line.as_bytes()), 1), "{line}");
+    }
 }
 
 /// Whether an answer line is the error of that line number.
@@ -225,6 +335,7 @@ fn a_drawing_follows_what_is_watched() {
         ("damage pf 1", "damage 0"),
         ("damage pf 2", "damage 0"),
         ("damage independent 1", "damage 0"),
+        ("damage whole roll 1", "damage 0"),
     ] {
         let script = format!("watch on\n{line}\nwatch off\n{line}\n");
         let expected = format!("watch 0\n{answer}\n{drawing}watch 0\n{answer}\n");
@@ -278,6 +389,7 @@ fn help_is_a_block() {
     for form in [
         "event WORD",
         "damage independent N",
+        "damage whole KIND N",
         "area LENGTH",
         "poke START HEX",
         "write SIDE START",

@@ -20,6 +20,7 @@ fn case_2_heading_readings() {
     assert_eq!(read(&mut bench, Kind::Heading, 359.5), Ok(()));
     assert_eq!(bench.reading(Kind::Heading), 359.5_f64.to_bits());
     assert_eq!(Kind::Heading.whole(bench.reading(Kind::Heading)), Ok(0));
+    assert_eq!(bench.whole(Kind::Heading), 0);
 }
 
 #[test]
@@ -30,6 +31,7 @@ fn case_3_altitude_readings() {
         Kind::Altitude.whole(bench.reading(Kind::Altitude)),
         Ok(56_000)
     );
+    assert_eq!(bench.whole(Kind::Altitude), 56_000);
     assert_eq!(
         read(&mut bench, Kind::Altitude, 56_001.0),
         Err(Refusal::OutOfRange)

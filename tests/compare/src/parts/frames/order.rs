@@ -8,7 +8,7 @@ use crate::script::Script;
 const AREA: usize = 40;
 
 /// Damages after which the bench is unsound, each at another place; the first is none.
-const DAMAGES: [&str; 14] = [
+const DAMAGES: [&str; 16] = [
     "damage pf 0",
     "damage pf 2",
     "damage pf 255",
@@ -22,6 +22,8 @@ const DAMAGES: [&str; 14] = [
     "damage right-inbox roll -28",
     "damage reading altitude nan",
     "damage reading heading 361",
+    "damage whole airspeed 91",
+    "damage whole heading 360",
     "damage independent 1",
 ];
 

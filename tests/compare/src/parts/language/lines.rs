@@ -1,7 +1,7 @@
 //! Lines that are commands, and lines that look like commands.
 
 /// One of each form, as they should be.
-pub const VALID: [&str; 57] = [
+pub const VALID: [&str; 59] = [
     "event 16384",
     "event 1048576",
     "event 0",
@@ -33,7 +33,10 @@ pub const VALID: [&str; 57] = [
     "damage right-inbox set 0 0 0 0",
     "damage left-inbox held -8000",
     "damage right ias 250",
-    "damage reading vertical-speed 300.5",
+    // These keep the bench of power-on sound, so that calls after them are carried out.
+    "damage reading vertical-speed -0.5",
+    "damage whole airspeed 90",
+    "damage whole vertical-speed -0",
     "press hdg",
     "press ap-disconnect",
     "press independent",
@@ -129,7 +132,7 @@ fn capitalized(line: &str) -> String {
     first.to_uppercase() + rest
 }
 
-const ODD: [&str; 82] = [
+const ODD: [&str; 107] = [
     "",
     "   ",
     "#",
@@ -184,6 +187,31 @@ const ODD: [&str; 82] = [
     "damage reading set 1 0 1 0",
     "damage reading left 1",
     "damage left reading roll 1",
+    "whole roll 1",
+    "damage whole",
+    "damage whole roll",
+    "damage whole 1",
+    "damage whole 1 roll",
+    "damage whole 3 1",
+    "damage whole roll 1 2",
+    "damage whole roll 1 x",
+    "damage whole roll pitch 1",
+    "damage whole roll 1.0",
+    "damage whole roll nan",
+    "damage whole roll -",
+    "damage whole Roll 1",
+    "damage whole speed 1",
+    "damage whole ias 1",
+    "damage whole held 1",
+    "damage whole left 1",
+    "damage whole vertical speed 1",
+    "damage whole reading roll 1",
+    "damage whole whole roll 1",
+    "damage whole set 1 0 1 0",
+    "damage left whole 1",
+    "damage left whole roll 1",
+    "damage reading whole 1",
+    "damage wholes roll 1",
     "damage left altitude 1",
     "damage left airspeed 100",
     "damage left fd 1",

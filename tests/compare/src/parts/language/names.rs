@@ -6,7 +6,7 @@ use std::collections::BTreeSet;
 use crate::parts::words::{BOXES, KINDS, KNOBS, REFERENCES, SIDES, SIGNALS, SWITCHES};
 
 /// The places; each takes a word where the braces stand.
-const PLACES: [&str; 37] = [
+const PLACES: [&str; 40] = [
     "{}",
     "event {}",
     "press {}",
@@ -37,6 +37,9 @@ const PLACES: [&str; 37] = [
     "damage left heading {}",
     "damage left set {} 0 1 0",
     "damage reading {} 7",
+    "damage {} roll 7",
+    "damage whole {} 7",
+    "damage whole roll {}",
     "area {}",
     "poke {} 5a",
     "poke 0 {}",
@@ -51,7 +54,9 @@ const COMMANDS: [&str; 21] = [
     "damage", "press", "signal", "knob", "watch", "help", "area", "poke", "write", "read", "bytes",
 ];
 
-const OTHERS: [&str; 10] = ["on", "off", "set", "pf", "end", "0", "1", "3", "4", "14"];
+const OTHERS: [&str; 11] = [
+    "on", "off", "set", "pf", "whole", "end", "0", "1", "3", "4", "14",
+];
 
 /// The words of all tables, each once.
 fn words() -> BTreeSet<&'static str> {
@@ -96,6 +101,8 @@ fn homes() -> Vec<(&'static str, Vec<&'static str>)> {
         ("{}", vec!["help"]),
         ("damage {} 0", vec!["independent"]),
         ("damage {} 1", vec!["independent"]),
+        ("damage {} roll 7", vec!["whole"]),
+        ("damage whole {} 7", KINDS.map(|row| row.name).to_vec()),
         ("{} hdg", vec!["press"]),
         ("{} nav-captured", vec!["signal"]),
         ("{} wheel 7", vec!["knob"]),
@@ -181,6 +188,12 @@ mod tests {
             "damage independent 0",
             "damage independent 1",
             "damage independent on",
+            "damage whole roll 7",
+            "damage whole vertical-speed 7",
+            "damage whole ias 7",
+            "damage whole roll 14",
+            "damage whole roll pitch",
+            "damage left roll 7",
             "reading speed 7",
             "display wheel",
             "help",
@@ -221,6 +234,11 @@ mod tests {
             "press independents",
             "damage independen 1",
             "damage INDEPENDENT 0",
+            "damage whol roll 7",
+            "damage Whole roll 7",
+            "damage whole rol 7",
+            "damage whole vertical_speed 7",
+            "damage whole pitch pitch 7",
             "signal navcaptured",
             "send lef",
             "pick Right",

@@ -1,7 +1,7 @@
 //! Numbers of every form, good and bad, at every place that takes one.
 
 /// The places; each takes a number where the braces stand.
-const PLACES: [&str; 34] = [
+const PLACES: [&str; 36] = [
     "event {}",
     "turn {} 7",
     "turn 1 {}",
@@ -22,6 +22,8 @@ const PLACES: [&str; 34] = [
     "reading roll {}",
     "damage reading altitude {}",
     "damage reading pitch -{}",
+    "damage whole altitude {}",
+    "damage whole heading -{}",
     "knob {} 7",
     "knob 1 {}",
     "knob heading -{}",
@@ -229,7 +231,7 @@ mod tests {
     #[test]
     fn every_form_stands_at_every_place() {
         let numbers = 69 + 72 + 16 + 4;
-        assert_eq!(lines().len(), 34 * numbers);
+        assert_eq!(lines().len(), 36 * numbers);
     }
 
     #[test]
@@ -246,6 +248,14 @@ mod tests {
             "damage right ias -2147483648",
             "damage right ias -2147483649",
             "damage right ias 2147483648",
+            "damage whole altitude -2147483648",
+            "damage whole altitude -2147483649",
+            "damage whole altitude 2147483647",
+            "damage whole altitude 2147483648",
+            "damage whole heading -2147483648",
+            "damage whole heading --2147483648",
+            "damage whole altitude 1.0",
+            "damage whole altitude 4294967296",
             "damage left set 6 0 1 0",
             "damage left set 4 3 1 0",
             "damage left set 4 0 9 0",

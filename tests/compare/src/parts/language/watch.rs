@@ -7,7 +7,7 @@ use crate::script::Script;
 const STEPS: usize = 1_500;
 
 /// Lines that are refused, that are errors, and that have no answer.
-const OTHERS: [&str; 44] = [
+const OTHERS: [&str; 47] = [
     "event 2097152",
     "event 4294967295",
     "turn 4 0",
@@ -23,6 +23,8 @@ const OTHERS: [&str; 44] = [
     "damage left set 1 1 1 1",
     "damage right ias 59",
     "damage reading roll nan",
+    "damage whole roll 1",
+    "damage whole pitch -2147483648",
     "event",
     "event x",
     "press",
@@ -35,6 +37,7 @@ const OTHERS: [&str; 44] = [
     "send both",
     "damage pf 256",
     "damage independent 2",
+    "damage whole roll x",
     "watch",
     "watch up",
     "watch on off",

@@ -1,6 +1,6 @@
 //! Values of readings by chance.
 
-use crate::parts::words::{pattern, Ranged, SEAMS};
+use crate::parts::words::{float, pattern, Ranged, SEAMS};
 use crate::rng::Rng;
 
 /// Mostly in the range of a kind or close to it; now and then where a circle comes round, whatever
@@ -22,6 +22,21 @@ pub fn value(kind: Ranged, rng: &mut Rng) -> String {
         92..=95 => rng.pick(&SPECIAL).to_string(),
         96..=97 => decimal(rng.between(-100_000, 100_000), rng),
         _ => pattern(f64::from_bits(rng.next())),
+    }
+}
+
+/// A whole value for a float: mostly its own, one beside it, or what another rule would give.
+pub fn whole(kind: Ranged, value: &str, rng: &mut Rng) -> i32 {
+    let value = float(value);
+    let own = kind.whole(value);
+    match rng.below(12) {
+        0..=3 => own,
+        4..=6 => own.saturating_add(rng.pick(&[-2, -1, 1, 2])),
+        7 => value.trunc() as i32,
+        8 => value.round() as i32,
+        9 => rng.pick(&[kind.low, kind.high, kind.last, kind.last + 1]),
+        10 => rng.pick(&[0, i32::MIN, i32::MAX, own.wrapping_add(1 << 16)]),
+        _ => rng.next() as i32,
     }
 }
 
@@ -93,6 +108,18 @@ mod tests {
             let halves = values.iter().filter(|value| value.ends_with(".5")).count();
             assert!(halves > 300, "{halves}");
         }
+    }
+
+    #[test]
+    fn whole_values_are_true_unreduced_rounded_otherwise_and_far_away() {
+        let mut rng = Rng::of_list(1, 0);
+        let seen: BTreeSet<i32> = (0..1_000)
+            .map(|_| whole(KINDS[5], "359.5", &mut rng))
+            .collect();
+        for expected in [-2, -1, 0, 1, 2, 359, 360, 361, 65_536, i32::MIN, i32::MAX] {
+            assert!(seen.contains(&expected), "{expected}");
+        }
+        assert!(seen.len() > 40);
     }
 
     #[test]
