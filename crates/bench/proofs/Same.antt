@@ -1,5 +1,5 @@
 -- The test of two numbers for being the same: what it tells, and that comparing 32-bit words tells it. Assumes nothing.
-use mathlib.Core.Path.{_≡_, refl, sym, ap, _∙_, subst}
+use mathlib.Core.Path.{_≡_, refl, sym, ap, _∙_}
 use mathlib.Core.Bool.{Bool, true, false, true≢false, false≢true}
 use lib.Dec.{eqb}
 use lib.IntN.{ℤ, pos, negsuc}

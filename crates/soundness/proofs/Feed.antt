@@ -2,28 +2,26 @@
 use mathlib.Core.Path.{_≡_, refl, sym, ap, _∙_}
 use mathlib.Core.Bool.{Bool, true, false, cond, true≢false}
 use Prim.Native.Nat.{ℕ}
-use native.Mathlib.Omega.{arith}
-use borrow.Author.Tests.{ne-eqb}
 use lib.Dec.{eqb}
 use lib.Count.{trailingZeros}
 use lib.IntN.{ℤ}
 use Rattle.modes.specs.declared.ModeSet.{ModeSet}
 use Rattle.modes.specs.declared.Event.{Event}
 use Rattle.modes.specs.Events.{eventAt}
+use Rattle.bench.specs.declared.References.{References}
 use Rattle.bench.specs.declared.Reading.{Reading}
 use Rattle.bench.specs.declared.Bench.{Bench}
 use Rattle.bench.specs.Parts.{withShared, withCounts, withReadings, withWholes, withBox, countOf}
-use Rattle.bench.specs.Readings.{refusalOf, stored, storedWhole, wholesOf}
+use Rattle.bench.specs.Readings.{stored, storedWhole}
 use Rattle.bench.specs.Sides.{acts, whereActing, onActing}
 use Rattle.bench.specs.Independent.{bothApproach, withOperation, begun, ended}
-use Rattle.bench.specs.Sound.{sound}
 use Rattle.bench.proofs.SoundParts.{by-cond}
 use Rattle.bench.proofs.WholeLaws.{wholes-afresh}
 use Rattle.steps.specs.Entry.{settled}
 use Rattle.steps.specs.Steps.{withFdAfter, firstStep, laterSteps, threeSteps}
 use Rattle.steps.proofs.ByEvent.{by-event}
 use Rattle.knobs.specs.Knobs.{referred, referenceMoved, pitched, wheelTurned, altitudeTurned, headingTurned, knobTurned, counted, turned}
-use Rattle.calls.specs.Calls.{Call, event, turn, reading, send, refresh, display, ownRefusal, refusal, received, done, next}
+use Rattle.calls.specs.Calls.{Call, event, turn, reading, send, refresh, display, refusal, received, done, next}
 use Rattle.calls.specs.Sends.{sent, taken, refreshed}
 use Rattle.calls.proofs.Answered.{next-refused}
 use Rattle.soundness.specs.Feed.{isReading, SameFeed, FeedLaws}
@@ -48,9 +46,14 @@ settled-feed : (after : ModeSet) (s : ℕ) (b : Bench) → SameFeed b (settled a
 unfolding settled withBox
 settled-feed after s b = search
 
+first-feed : (e : Event) (b : Bench) → SameFeed b (firstStep e b)
+unfolding firstStep withFdAfter withBox withShared
+first-feed e b = search
+
 three-feed : (e : Event) (b : Bench) → SameFeed b (threeSteps e b)
-unfolding threeSteps firstStep laterSteps withFdAfter withBox withShared
-three-feed e b = then b (firstStep e b) _ (search) (acting-feed (laterSteps e (b .shared .overspeed)) (λ s x. settled-feed _ s x) (firstStep e b))
+unfolding threeSteps laterSteps
+three-feed e b =
+    then b (firstStep e b) _ (first-feed e b) (acting-feed (laterSteps e (b .shared .overspeed)) (λ s x. settled-feed _ s x) (firstStep e b))
 
 operation-feed : (t : Bool) (b : Bench) → SameFeed b (withOperation t b)
 unfolding withOperation withShared
@@ -66,15 +69,23 @@ ended-feed b = either b (bothApproach b) b _ (search) (operation-feed false b)
 
 -- ---- knobs
 
+referred-feed : (r : References) (s : ℕ) (b : Bench) → SameFeed b (referred r s b)
+unfolding referred withBox
+referred-feed r s b = search
+
+counted-feed : (knob n : ℕ) (b : Bench) → SameFeed b (counted knob n b)
+unfolding counted withCounts
+counted-feed knob n b = search
+
 knob-feed : (knob : ℕ) (r : ℤ) (s : ℕ) (b : Bench) → SameFeed b (knobTurned knob r s b)
 unfolding knobTurned wheelTurned altitudeTurned headingTurned referenceMoved referred pitched settled withBox
 knob-feed knob r s b = search either depth 9
 
 turned-feed : (knob n : ℕ) (b : Bench) → SameFeed b (turned knob n b)
-unfolding turned counted withCounts
+unfolding turned
 turned-feed knob n b =
     let x = counted knob n b in
-    let k : SameFeed b x = search in
+    let k = counted-feed knob n b in
     either b (eqb n (countOf knob (b .counts))) x _ k (then b x _ k (acting-feed (knobTurned knob _) (knob-feed knob _) x))
 
 -- ---- the calls
@@ -96,25 +107,28 @@ others : (b : Bench) (c : Call) → isReading c ≡ false → SameFeed b (next b
 unfolding next
 others b c e = either b (eqb (refusal b c) 0) (ended (done c b)) b (then b (done c b) _ (done-feed c b e) (ended-feed (done c b))) (search)
 
-received-feed : (b : Bench) (r : Reading) → sound b ≡ true → refusalOf r ≡ 0 → SameFeed (received r b) (next b (reading r))
-unfolding next refusal
-received-feed b r h e = rw (h, e) (ended-feed (received r b))
+received-feed : (b : Bench) (r : Reading) → refusal b (reading r) ≡ 0 → SameFeed (received r b) (next b (reading r))
+unfolding next
+received-feed b r e = rw e (ended-feed (received r b))
 
-accepted : (b : Bench) (r : Reading) → sound b ≡ true → refusalOf r ≡ 0
+accepted : (b : Bench) (r : Reading) → refusal b (reading r) ≡ 0
     → (next b (reading r) .readings ≡ stored r (b .readings)) × (next b (reading r) .wholes ≡ storedWhole r (b .wholes))
 unfolding received withReadings withWholes
-accepted b r h e = let k = received-feed b r h e in (k .readings, k .wholes)
+accepted b r e = let k = received-feed b r e in (k .readings, k .wholes)
 
-refused : (b : Bench) (r : Reading) → (refusalOf r ≡ 0 → ⊥) → SameFeed b (next b (reading r))
-unfolding refusal
-refused b r k = same (next-refused b (reading r) (refusal b (reading r)) refl (turned-away (sound b)))
-  where
-    turned-away : (t : Bool) → cond t (refusalOf r) 1 ≡ 0 → ⊥
-    turned-away true e = k e
-    turned-away false e = absurd (omega arith)
-
-    same : {x : Bench} → b ≡ x → SameFeed b x
-    same e = record { readings = ap (λ (y : Bench). y .readings) (sym e); wholes = ap (λ (y : Bench). y .wholes) (sym e) }
+refused : (b : Bench) (r : Reading) → (refusal b (reading r) ≡ 0 → ⊥) → SameFeed b (next b (reading r))
+refused b r k =
+    let e = sym (next-refused b (reading r) (refusal b (reading r)) refl k) in
+    record { readings = ap (λ (x : Bench). x .readings) e; wholes = ap (λ (x : Bench). x .wholes) e }
 
 pub feed-laws : FeedLaws
-feed-laws = record { accepted = accepted; refused = refused; others = others; afresh = λ b c h. wholes-afresh (next b c) (next-sound b c h) }
+feed-laws = record {
+  accepted = accepted;
+  refused = refused;
+  others = others;
+  first-step = first-feed;
+  entry = settled-feed;
+  count = counted-feed;
+  moved = referred-feed;
+  afresh = λ b c h. wholes-afresh (next b c) (next-sound b c h);
+}

@@ -1,9 +1,9 @@
 -- `bench::is_kept` meets its contract: the refusal is compared with 0, and the whole value with the one kept. Assumes nothing.
-use mathlib.Core.Path.{_≡_, ap, _∙_}
+use mathlib.Core.Path.{ap, _∙_}
 use mathlib.Core.Bool.{_&&_}
 use lib.Dec.{eqb}
 use Rattle.rotation.proofs.Signed.{same32}
-use Rattle.bench.specs.Readings.{wholeReading, judged, numberOf, wholeNumber, same}
+use Rattle.bench.specs.Readings.{judged, numberOf, wholeNumber, same}
 use borrow.Author.Needs.{needs}
 use Rattle.bench.proofs.is_kept.Statement.{statement}
 use Rattle.bench.proofs.is_kept.Tie as tie

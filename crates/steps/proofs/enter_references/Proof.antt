@@ -1,5 +1,4 @@
 -- `steps::enter_references` meets its contract: entry by the laws before and after is entry by the modes. Assumes nothing.
-use mathlib.Core.Path.{_∙_}
 use Rattle.steps.proofs.ByLaw.{entry-by-law}
 use borrow.Author.Needs.{needs}
 use Rattle.steps.proofs.enter_references.Statement.{statement}
