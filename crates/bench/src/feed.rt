@@ -4,7 +4,7 @@ use crate::ranges::Range;
 use crate::ranges::is_within;
 use rounding::Whole;
 ghost use mathlib.Core.Path.{_≡_};
-ghost use Rattle.bench.specs.Readings.{floatOf, wrapped, wholeReading, judged, numberOf};
+ghost use Rattle.bench.specs.Readings.{floatOf, wrapped, wholeReading, judged, numberOf, kindOf};
 
 fn float_of(r: Reading) -> f64
     ensures { λ res. ⌜ res ≡ floatOf r ⌝ }
@@ -73,5 +73,19 @@ pub fn number_of(whole: Whole) -> i32
         Whole::NotFinite => 0,
         Whole::Beyond => 0,
         Whole::Value(v) => v,
+    }
+}
+
+// The number of a reading's kind, by which its whole value is kept.
+pub fn kind_of(r: Reading) -> u32
+    ensures { λ res. ⌜ res ≡ kindOf r ⌝ }
+{
+    match r {
+        Reading::Altitude(_) => 0,
+        Reading::Airspeed(_) => 1,
+        Reading::VerticalSpeed(_) => 2,
+        Reading::Roll(_) => 3,
+        Reading::Pitch(_) => 4,
+        Reading::Heading(_) => 5,
     }
 }

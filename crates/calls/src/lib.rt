@@ -123,44 +123,38 @@ fn receive(b: Bench, range: Range, whole: Whole, readings: Readings, wholes: Who
     accept(bench::parts::with_wholes(next, wholes))
 }
 
-// A reading of the air data feed. Each kind has its range, and its field among the floats and among the
-// whole values.
+// A reading of the air data feed. Each kind has its range, its number and its field.
 pub fn reading(b: Bench, r: bench::Reading) -> Answer
     ensures { λ res. ⌜ res ≡ answer b (Call.reading r) ⌝ }
 {
     let whole = bench::feed::whole_reading(r);
     let number = bench::feed::number_of(whole);
+    let was = b.wholes;
+    let wholes = bench::parts::with_whole(was, bench::feed::kind_of(r), number);
     let mut next = b.readings;
-    let mut wholes = b.wholes;
     match r {
         bench::Reading::Altitude(x) => {
             next.altitude = x;
-            wholes.altitude = number;
             receive(b, ranges::ALTITUDE, whole, next, wholes)
         }
         bench::Reading::Airspeed(x) => {
             next.airspeed = x;
-            wholes.airspeed = number;
             receive(b, ranges::AIRSPEED, whole, next, wholes)
         }
         bench::Reading::VerticalSpeed(x) => {
             next.vertical_speed = x;
-            wholes.vertical_speed = number;
             receive(b, ranges::VERTICAL_SPEED, whole, next, wholes)
         }
         bench::Reading::Roll(x) => {
             next.roll = x;
-            wholes.roll = number;
             receive(b, ranges::ROLL, whole, next, wholes)
         }
         bench::Reading::Pitch(x) => {
             next.pitch = x;
-            wholes.pitch = number;
             receive(b, ranges::PITCH, whole, next, wholes)
         }
         bench::Reading::Heading(x) => {
             next.heading = x;
-            wholes.heading = number;
             receive(b, ranges::HEADING, whole, next, wholes)
         }
     }
