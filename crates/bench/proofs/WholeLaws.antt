@@ -64,14 +64,14 @@ kept-number r z h = same-true (wholeNumber r) z (and-right (valid r) (same (whol
 is-kept : (r : Reading) (z : ℤ) → kept r z ≡ true → (wholeReading r ≡ Whole.Value z) × (within (readingRange r) z ≡ true)
 unfolding wholeNumber refusalOf
 is-kept r z h =
-    let i = judged-in r (wholeReading r) refl (eqb-true _ 0 (and-left (valid r) (same (wholeNumber r) z) h)) in
+    let i = judged-in r (wholeReading r) refl (eqb-true (refusalOf r) 0 (and-left (valid r) (same (wholeNumber r) z) h)) in
     let value : i .value ≡ z = sym (ap numberOf (i .whole)) ∙ kept-number r z h in
     (i .whole ∙ ap Whole.Value value, sym (ap (within (readingRange r)) value) ∙ i .inside)
 
 may-keep : (r : Reading) (z : ℤ) → (wholeReading r ≡ Whole.Value z) × (within (readingRange r) z ≡ true) → kept r z ≡ true
 unfolding wholeNumber refusalOf
 may-keep r z (e, h) =
-    and-both (valid r) (same (wholeNumber r) z) (eq-eqb _ 0 (in-judged r (record { value = z; whole = e; inside = h })))
+    and-both (valid r) (same (wholeNumber r) z) (eq-eqb (refusalOf r) 0 (in-judged r (record { value = z; whole = e; inside = h })))
     (ap (λ (n : ℤ). same n z) (ap numberOf e) ∙ same-self z)
 
 -- so what soundness finds beside six readings are their whole values
