@@ -2,11 +2,12 @@
 -- what only shows leaves the bench as it is, and so does what is for the bus area.
 use Prim.Native.Nat.{ℕ, _+_, _%_}
 use Rattle.scripts.specs.declared.Command.{Command}
-use Rattle.scripts.specs.declared.Command.the-variants.{Blank, Wrong, Event, Send, Refresh, Display, Pick, Turn, Knob, Reading, PowerOn, Panel, Help, Watch}
+use Rattle.scripts.specs.declared.Command.the-variants.{Blank, Wrong, Event, Send, Refresh, Display, Pick, Turn, Knob, Reading, PowerOn, Start, Panel, Help, Watch}
 use Rattle.scripts.specs.declared.Command.the-variants.{DamagePf, DamageReading, DamageWhole, DamageSet, DamageReference, DamageIndependent, Area, Poke, Write, Read, Bytes}
 use Rattle.scripts.specs.declared.Command.the-variants.{Bench as WriteBench}
 use Rattle.bench.specs.declared.Bench.{Bench}
-use Rattle.bench.specs.Holds.{powerOn}
+use Rattle.bench.specs.declared.Started.{Started}
+use Rattle.bench.specs.Holds.{powerOn, started}
 use Rattle.bench.specs.Parts.{countOf}
 use Rattle.bench.specs.Independent.{withOperation}
 use Rattle.calls.specs.declared.answers.Answer.{Answer}
@@ -19,6 +20,10 @@ use Rattle.acts.specs.Damage.{pfDamaged, setDamaged, referenceDamaged, r
 -- the answer of a call that is no event: 32 names none
 abbrev pub eventless : Answer → EventAnswer
 eventless a = record { refusal = a .refusal; event = 32; bench = a .bench }
+
+-- the answer of a start, whatever the bench was before it
+abbrev pub startAnswer : Started → EventAnswer
+startAnswer s = record { refusal = s .refusal; event = 32; bench = s .bench }
 
 -- a command that no call can refuse leaves a bench
 abbrev pub leaves : Bench → EventAnswer
@@ -41,6 +46,7 @@ answerTo (Turn knob count) b = eventless (answer b (Call.turn knob count))
 answerTo (Knob knob clicks) b = eventless (clicked knob clicks b)
 answerTo (Reading r) b = eventless (answer b (Call.reading r))
 answerTo PowerOn b = leaves powerOn
+answerTo (Start speed) b = startAnswer (started speed)
 answerTo WriteBench b = leaves b
 answerTo Panel b = leaves b
 answerTo Help b = leaves b
@@ -75,6 +81,7 @@ effectOf (Turn knob count) = Effect.Acts
 effectOf (Knob knob clicks) = Effect.Acts
 effectOf (Reading r) = Effect.Acts
 effectOf PowerOn = Effect.Acts
+effectOf (Start speed) = Effect.Acts
 effectOf WriteBench = Effect.Shows
 effectOf Panel = Effect.Shows
 effectOf Help = Effect.Shows

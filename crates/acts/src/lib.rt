@@ -2,9 +2,10 @@
 mod damage;
 
 ghost use mathlib.Core.Path.{_≡_};
-ghost use Rattle.acts.specs.Acts.{eventless, leaves, clicked, effectOf, answerTo};
+ghost use Rattle.acts.specs.Acts.{eventless, startAnswer, leaves, clicked, effectOf, answerTo};
 use areas::AreaAct;
 use bench::Bench;
+use bench::Started;
 use bench::parts::with_operation;
 use calls::answers::Answer;
 use calls::answers::EventAnswer;
@@ -22,6 +23,18 @@ fn plain(a: Answer) -> EventAnswer
     let bench = a.bench;
     EventAnswer {
         refusal: a.refusal,
+        event: 32,
+        bench,
+    }
+}
+
+// The answer of a start, which takes nothing over from the bench before it.
+fn start_answer(s: Started) -> EventAnswer
+    ensures { λ res. ⌜ res ≡ startAnswer s ⌝ }
+{
+    let bench = s.bench;
+    EventAnswer {
+        refusal: s.refusal,
         event: 32,
         bench,
     }
@@ -72,6 +85,7 @@ pub fn effect_of(c: Command) -> Effect
         Command::Knob(_, _) => Effect::Acts,
         Command::Reading(_) => Effect::Acts,
         Command::PowerOn => Effect::Acts,
+        Command::Start(_) => Effect::Acts,
         Command::Bench => Effect::Shows,
         Command::Panel => Effect::Shows,
         Command::Help => Effect::Shows,
@@ -108,6 +122,7 @@ pub fn answer_to(b: Bench, c: Command) -> EventAnswer
         Command::Knob(knob, clicks) => plain(click(b, knob, clicks)),
         Command::Reading(r) => plain(calls::reading(b, r)),
         Command::PowerOn => bench_alone(bench::power_on()),
+        Command::Start(speed) => start_answer(bench::start(speed)),
         Command::Bench => bench_alone(b),
         Command::Panel => bench_alone(b),
         Command::Help => bench_alone(b),

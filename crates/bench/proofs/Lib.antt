@@ -3,3 +3,4 @@ pub mod Replaced
 pub mod SoundParts
 pub mod Independent
 pub mod WholeLaws
+pub mod StartLaws

@@ -68,7 +68,7 @@ is-kept r z h =
     let value : i .value ≡ z = sym (ap numberOf (i .whole)) ∙ kept-number r z h in
     (i .whole ∙ ap Whole.Value value, sym (ap (within (readingRange r)) value) ∙ i .inside)
 
-may-keep : (r : Reading) (z : ℤ) → (wholeReading r ≡ Whole.Value z) × (within (readingRange r) z ≡ true) → kept r z ≡ true
+pub may-keep : (r : Reading) (z : ℤ) → (wholeReading r ≡ Whole.Value z) × (within (readingRange r) z ≡ true) → kept r z ≡ true
 unfolding wholeNumber refusalOf
 may-keep r z (e, h) =
     and-both (valid r) (same (wholeNumber r) z) (eq-eqb (refusalOf r) 0 (in-judged r (record { value = z; whole = e; inside = h })))

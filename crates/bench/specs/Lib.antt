@@ -7,3 +7,4 @@ pub mod Independent
 pub mod Sound
 pub mod Laws
 pub mod Wholes
+pub mod Starts

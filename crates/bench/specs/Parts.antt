@@ -1,4 +1,4 @@
--- The parts of a bench, read and replaced. Document 01, 'What a bench value holds'; document 02, 2026-05, for whole values. Here, and in power-on, a bench, a channel and the references are spelled out, and nowhere else.
+-- The parts of a bench, read and replaced. Document 01, 'What a bench value holds'; document 02, 2026-05, for whole values. Here, and in Holds, a bench, a channel and the references are spelled out, and nowhere else.
 use mathlib.Core.Bool.{Bool, cond}
 use Prim.Native.Nat.{ℕ}
 use lib.Dec.{eqb}

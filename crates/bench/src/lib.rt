@@ -1,4 +1,4 @@
-// The bench value: what it holds at power-on, which sides act, and when it is sound. `parts` replaces
+// The bench value: what it holds at a start, which sides act, and when it is sound. `parts` replaces
 // and reads its parts, `ranges` has the ranges of references and readings, `feed` the readings.
 pub mod feed;
 pub mod parts;
@@ -22,7 +22,7 @@ ghost use mathlib.Core.Path.{_≡_};
 ghost use mathlib.Core.Bool.{_&&_};
 ghost use lib.Dec.{eqb};
 ghost use Rattle.bench.specs.Parts.{box};
-ghost use Rattle.bench.specs.Holds.{powerOn, startChannel};
+ghost use Rattle.bench.specs.Holds.{startChannel, startReadings, startWholes, benchAt, powerOn, started};
 ghost use Rattle.bench.specs.Sides.{acts, otherSide};
 ghost use Rattle.bench.specs.Independent.{bothApproach, independentSound};
 ghost use Rattle.bench.specs.Readings.{wholeReading, judged, same, wholeNumber};
@@ -107,10 +107,19 @@ pub struct Bench {
     pub right_inbox: Channel,
 }
 
-fn start_channel() -> Channel
-    ensures { λ res. ⌜ res ≡ startChannel ⌝ }
+// What a start answers: its refusal, and the bench to begin with.
+pub struct Started {
+    pub refusal: u32,
+    pub bench: Bench,
+}
+
+// The starting speed of the default bench, in knots.
+const DEFAULT_SPEED: i32 = 120;
+
+fn start_channel(speed: i32) -> Channel
+    ensures { λ res. ⌜ res ≡ startChannel speed ⌝ }
 {
-    let references = with_reference(zero_references(), IAS, 90);
+    let references = with_reference(zero_references(), IAS, speed);
     Channel {
         fd: false,
         set: ModeSet::Off,
@@ -118,11 +127,39 @@ fn start_channel() -> Channel
     }
 }
 
-// The bench at power-on.
-pub fn power_on() -> Bench
-    ensures { λ res. ⌜ res ≡ powerOn ⌝ }
+fn start_readings(speed: i32) -> Readings
+    ensures { λ res. ⌜ res ≡ startReadings speed ⌝ }
 {
-    let start = start_channel();
+    Readings {
+        altitude: 0.0,
+        airspeed: speed as f64,
+        vertical_speed: 0.0,
+        roll: 0.0,
+        pitch: 0.0,
+        heading: 0.0,
+    }
+}
+
+fn start_wholes(speed: i32) -> Wholes
+    ensures { λ res. ⌜ res ≡ startWholes speed ⌝ }
+{
+    Wholes {
+        altitude: 0,
+        airspeed: speed,
+        vertical_speed: 0,
+        roll: 0,
+        pitch: 0,
+        heading: 0,
+    }
+}
+
+// The bench that a starting speed makes, whether or not a start accepts it.
+fn bench_at(speed: i32) -> Bench
+    ensures { λ res. ⌜ res ≡ benchAt speed ⌝ }
+{
+    let channel = start_channel(speed);
+    let readings = start_readings(speed);
+    let wholes = start_wholes(speed);
     Bench {
         shared: Shared {
             pf: 0,
@@ -136,27 +173,32 @@ pub fn power_on() -> Bench
             speed: 0,
             heading: 0,
         },
-        readings: Readings {
-            altitude: 0.0,
-            airspeed: 90.0,
-            vertical_speed: 0.0,
-            roll: 0.0,
-            pitch: 0.0,
-            heading: 0.0,
-        },
-        wholes: Wholes {
-            altitude: 0,
-            airspeed: 90,
-            vertical_speed: 0,
-            roll: 0,
-            pitch: 0,
-            heading: 0,
-        },
-        left: start,
-        right: start,
-        left_inbox: start,
-        right_inbox: start,
+        readings,
+        wholes,
+        left: channel,
+        right: channel,
+        left_inbox: channel,
+        right_inbox: channel,
     }
+}
+
+// The bench at power-on, which is the default one.
+pub fn power_on() -> Bench
+    ensures { λ res. ⌜ res ≡ powerOn ⌝ }
+{
+    bench_at(DEFAULT_SPEED)
+}
+
+// A start at a speed in knots; one that is refused gives the default bench.
+pub fn start(speed: i32) -> Started
+    ensures { λ res. ⌜ res ≡ started speed ⌝ }
+{
+    if ranges::is_within(ranges::STARTING_SPEED, speed) {
+        let bench = bench_at(speed);
+        return Started { refusal: 0, bench };
+    }
+    let bench = bench_at(DEFAULT_SPEED);
+    Started { refusal: 10, bench }
 }
 
 // The other side of two.

@@ -1,4 +1,4 @@
-// The ranges of references and of readings, each in this one place.
+// The ranges of references, of readings and of the starting speed, each in this one place.
 use crate::References;
 use crate::parts::reference_at;
 ghost use mathlib.Core.Path.{_≡_};
@@ -33,6 +33,9 @@ pub const ROLL: Range = Range {
 pub const PITCH: Range = Range { low: -90, high: 89 };
 
 pub const HEADING: Range = Range { low: 0, high: 359 };
+
+// The speeds that a start accepts.
+pub const STARTING_SPEED: Range = Range { low: 60, high: 400 };
 
 // The range of the reference at a place.
 pub fn reference_range(place: u32) -> Range

@@ -1,21 +1,24 @@
--- The claim over a list of calls, proved from any sound bench; power-on is an instance. Assumes nothing.
+-- The claim over a list of calls, proved from any sound bench; starts are instances, and power-on is one of them. Assumes nothing.
 use mathlib.Core.Path.{_≡_, refl, sym, ap, _∙_}
 use mathlib.Core.Bool.{true, false}
 use mathlib.Core.List.{List, [], _∷_, _++_}
 use Prim.Native.Nat.{ℕ, _≤_}
 use borrow.Author.Tests.{ne-eqb}
 use lib.Dec.{eqb}
+use lib.IntN.{ℤ, pos}
 use Rattle.bench.specs.declared.Bench.{Bench}
 use Rattle.bench.specs.declared.Channel.{Channel}
-use Rattle.bench.specs.Holds.{powerOn}
+use Rattle.bench.specs.Holds.{benchAt, powerOn, startSpeeds, started}
+use Rattle.bench.specs.Ranges.{within}
 use Rattle.bench.specs.Sides.{otherSide, side, inbox}
 use Rattle.bench.specs.Sound.{sound}
 use Rattle.bench.proofs.Replaced.{by-side}
+use Rattle.bench.proofs.StartLaws.{at-sound, by-start}
 use Rattle.calls.specs.declared.answers.Display.{Display}
 use Rattle.calls.specs.Calls.{Call, event, turn, reading, send, refresh, display, refusal, next, answer, eventAnswer, displayAnswer, reply}
-use Rattle.soundness.proofs.Kept.{power-on-sound, next-sound}
+use Rattle.soundness.proofs.Kept.{next-sound}
 use Rattle.claim.specs.Lists.{after, transfers, refreshes, sends, pilotFrom, pilotFlying, None, OffThroughout}
-use Rattle.claim.specs.Claim.{displayFrom, displayAfter, SameShown, ShowsHeld, turnedAway, PassiveRule, Claim, ClaimFrom, Refused, Claims}
+use Rattle.claim.specs.Claim.{displayFrom, SameShown, ShowsHeld, turnedAway, PassiveRule, Claim, ClaimFrom, Refused, Claims}
 use Rattle.claim.proofs.Sides.{Same, same, same-trans}
 use Rattle.claim.proofs.OneCall.{other-side, step, sent-inbox, refreshed-side, unsound-next}
 use Rattle.claim.proofs.Shows.{display-refusal, display-shown, display-keeps, display-approach, shows-held, same-held}
@@ -87,40 +90,56 @@ module _ (start : Bench) (sound-start : sound start ≡ true) where
     passive-as-ever = λ o s hs pre post e. passive-from cs s hs pre post e (off-rest pre (refresh s ∷ post) start (rw e at o));
   }
 
--- ---- from power-on
+-- ---- from a start
 
--- at power-on an inbox holds what the other side does
-inbox-start : (s : ℕ) → s ≤ 1 → inbox powerOn s ≡ side powerOn (otherSide s)
-unfolding powerOn
-inbox-start s hs = by-side (λ (s : ℕ). inbox powerOn s ≡ side powerOn (otherSide s)) refl refl s hs
+-- at the speeds that a start accepts
+module _ (n : ℕ) (accepted : within startSpeeds (pos n) ≡ true) where
+  abbrev start : Bench
+  start = benchAt (pos n)
 
--- so that the rule is the one told by the other side's display at power-on
-of-power-on : (s : ℕ) → s ≤ 1 → (pre post : List Call) (d : Display)
-    → PassiveRule powerOn pilotFlying (λ s d. ShowsHeld (inbox powerOn s) d) s pre post d
-    → PassiveRule powerOn pilotFlying (λ s d. SameShown d (displayAfter [] (otherSide s) .display)) s pre post d
-of-power-on s hs pre post d rule p r t =
-    let shown = rule p r t in
-    record {
-      sent = shown .sent;
-      unsent = λ n.
-          same-held (inbox powerOn s) _ _ (shown .unsent n)
-          (shows powerOn power-on-sound [] (otherSide s) (other-side s) (inbox powerOn s) (same (sym (inbox-start s hs))));
-    }
+  sound-start : sound start ≡ true
+  sound-start = at-sound n accepted
 
-pub claim : (cs : List Call) → Claim cs
-unfolding powerOn
-claim cs =
-    let k = claim-from powerOn power-on-sound cs in
-    record {
-      served = k .served;
-      refusals = k .refusals;
-      pilot-side = k .pilot-side;
-      shown = k .shown;
-      keeps = k .keeps;
-      both-approach = k .both-approach;
-      passive = λ s hs pre post e o. of-power-on s hs pre post _ (k .passive s hs pre post e o);
-      passive-as-ever = λ o s hs pre post e. of-power-on s hs pre post _ (k .passive-as-ever o s hs pre post e);
-    }
+  -- an inbox holds what the other side does
+  inbox-start : (s : ℕ) → s ≤ 1 → inbox start s ≡ side start (otherSide s)
+  unfolding benchAt
+  inbox-start s hs = by-side (λ (s : ℕ). inbox start s ≡ side start (otherSide s)) refl refl s hs
+
+  -- so that the rule is the one told by the other side's display at the start
+  of-start : (s : ℕ) → s ≤ 1 → (pre post : List Call) (d : Display)
+      → PassiveRule start pilotFlying (λ s d. ShowsHeld (inbox start s) d) s pre post d
+      → PassiveRule start pilotFlying (λ s d. SameShown d (displayFrom start [] (otherSide s) .display)) s pre post d
+  of-start s hs pre post d rule p r t =
+      let shown = rule p r t in
+      record {
+        sent = shown .sent;
+        unsent = λ n.
+            same-held (inbox start s) _ _ (shown .unsent n)
+            (shows start sound-start [] (otherSide s) (other-side s) (inbox start s) (same (sym (inbox-start s hs))));
+      }
+
+  claim-at : (cs : List Call) → Claim start cs
+  unfolding benchAt
+  claim-at cs =
+      let k = claim-from start sound-start cs in
+      record {
+        served = k .served;
+        refusals = k .refusals;
+        pilot-side = k .pilot-side;
+        shown = k .shown;
+        keeps = k .keeps;
+        both-approach = k .both-approach;
+        passive = λ s hs pre post e o. of-start s hs pre post _ (k .passive s hs pre post e o);
+        passive-as-ever = λ o s hs pre post e. of-start s hs pre post _ (k .passive-as-ever o s hs pre post e);
+      }
+
+-- and so of every start
+pub claim : (speed : ℤ) (cs : List Call) → Claim (started speed .bench) cs
+claim = by-start (λ (b : Bench). (cs : List Call) → Claim b cs) claim-at
+
+pub claim-power-on : (cs : List Call) → Claim powerOn cs
+unfolding powerOn started
+claim-power-on = claim (pos 120)
 
 -- ---- from an unsound bench
 
@@ -140,4 +159,4 @@ refused-from start h (c ∷ cs) =
     record { same-bench = rw (unsound-next start c h) (more .same-bench); answers = rw (unsound-next start c h) (cc (unsound-reply start h c, more .answers)) }
 
 pub claims : Claims
-claims = record { from-power-on = claim; from-sound = claim-from; from-unsound = refused-from }
+claims = record { from-start = claim; from-power-on = claim-power-on; from-sound = claim-from; from-unsound = refused-from }

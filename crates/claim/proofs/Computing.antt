@@ -1,6 +1,6 @@
--- All that a list of calls from power-on computes with: a proof that says `unfolding rules` opens every definition on the `unfolding` lines below.
+-- All that a list of calls from a start computes with: a proof that says `unfolding rules` opens every definition on the `unfolding` lines below.
 use lib.Count.{trailingZeros}
-use lib.Ieee.{ofBits}
+use lib.Ieee.{ofBits, ofInt}
 use Rattle.rounding.specs.Whole.{wholeOf}
 use Rattle.modes.specs.Sets.{engaged, armed, cleared, once, coherent, put, disarm, arm, drop, clear, engage}
 use Rattle.modes.specs.Numbers.{armedSum, modeLamps}
@@ -8,7 +8,7 @@ use Rattle.modes.specs.Events.{overspeed, goAround, clearArmed, takeBasic, clea
 use Rattle.bench.specs.Parts.{withShared, withCounts, withReadings, withWholes, withBox, withFd, withSet, withReferences, withReference, withCount, withWhole}
 use Rattle.bench.specs.Sides.{acts}
 use Rattle.bench.specs.Independent.{bothApproach, independentSound, withOperation, begun, ended}
-use Rattle.bench.specs.Holds.{startChannel, powerOn}
+use Rattle.bench.specs.Holds.{startChannel, benchAt, powerOn, started}
 use Rattle.bench.specs.Ranges.{referenceRange}
 use Rattle.bench.specs.Readings.{wholeReading, refusalOf, wholeNumber, stored, storedWhole}
 use Rattle.bench.specs.Sound.{referencesSound, channelSound, readingsSound, sound}
@@ -30,11 +30,11 @@ changes = tt
 
 -- the parts of a bench, its readings and its soundness
 unfoldable parts : Unit {0}
-unfolding withShared withCounts withReadings withWholes withBox withFd withSet withReferences withReference withCount withWhole acts startChannel powerOn bothApproach independentSound withOperation begun ended
+unfolding withShared withCounts withReadings withWholes withBox withFd withSet withReferences withReference withCount withWhole acts startChannel benchAt powerOn started bothApproach independentSound withOperation begun ended
 parts = tt
 
 unfoldable benches : Unit {0}
-unfolding ofBits wholeOf referenceRange wholeReading refusalOf wholeNumber stored storedWhole referencesSound channelSound readingsSound sound
+unfolding ofBits ofInt wholeOf referenceRange wholeReading refusalOf wholeNumber stored storedWhole referencesSound channelSound readingsSound sound
 benches = tt
 
 -- the steps of an event, and knobs

@@ -189,6 +189,7 @@ only-refresh s (refresh t) e = ap refresh (eqb-true t s (and-eq-true-iff (accept
 only-refresh s (display t) e = cc
 
 pub reached : Reached
+unfolding rules
 reached = record {
   lateral = lateral;
   vertical = vertical;
@@ -203,4 +204,6 @@ reached = record {
   silent = silent;
   last-send = λ s. last (sends s) (send s) (only-send s);
   last-refresh = λ s. last (refreshes s) (refresh s) (only-refresh s);
+  started-at-90 = refl;
+  refused-at-59 = refl;
 }

@@ -1,16 +1,17 @@
--- Demand 3, document 01, 'The claim over a list of calls', and document 02, 2026-03: what holds after a list of calls, whatever they ask for and whether or not they are
--- refused, from power-on and from any other sound bench; and what becomes of a list from an unsound one. `after` and `replies` of Lists apply the rules to one call after
+-- Demand 3, document 01, 'The claim over a list of calls', and document 02, 2026-03 and 2026-06: what holds after a list of calls, whatever they ask for and whether or
+-- not they are refused, from any start, from power-on as one of them, and from any other sound bench; and what becomes of a list from an unsound one. `after` and `replies` of Lists apply the rules to one call after
 -- another; `accepted`, `transfers`, `refreshes`, `sends` and `pilotFlying` there go by the calls alone, and `OffThroughout` by the rules' bench. Here are definitions and
 -- statements only; the proofs are in proofs/.
 use mathlib.Core.Path.{_≡_}
 use mathlib.Core.Bool.{Bool, true, false, not}
 use mathlib.Core.List.{List, [], _∷_, _++_, map}
 use Prim.Native.Nat.{ℕ, _≤_, _/_, _%_}
+use lib.IntN.{ℤ}
 use Rattle.modes.specs.Sets.{isOff}
 use Rattle.modes.specs.Numbers.{lateralLaw, verticalLaw, armedSum}
 use Rattle.bench.specs.declared.Bench.{Bench}
 use Rattle.bench.specs.declared.Channel.{Channel}
-use Rattle.bench.specs.Holds.{powerOn}
+use Rattle.bench.specs.Holds.{powerOn, started}
 use Rattle.bench.specs.Sides.{otherSide, side, inbox}
 use Rattle.bench.specs.Sound.{sound}
 use Rattle.calls.specs.declared.answers.Display.{Display}
@@ -129,9 +130,10 @@ pub record ClaimOf (start : Bench) (pilot : List Call → ℕ) (Unsent : ℕ →
   pub passive-as-ever : OffThroughout start cs → (s : ℕ) → s ≤ 1 → (pre post : List Call) → cs ≡ pre ++ (refresh s ∷ post)
       → PassiveRule start pilot Unsent s pre post (displayFrom start cs s .display)
 
--- demand 3, from power-on: left has PF at first, and a side to which nothing was sent shows what the other side's display shows at power-on
-abbrev pub Claim : List Call → Type 0
-Claim cs = ClaimOf powerOn pilotFlying (λ s d. SameShown d (displayAfter [] (otherSide s) .display)) cs
+-- demand 3, from the bench of a start, which is what it means by power-on: left has PF at first, and a side to which nothing was sent shows what the other side's
+-- display shows at that start
+abbrev pub Claim : Bench → List Call → Type 0
+Claim start cs = ClaimOf start pilotFlying (λ s d. SameShown d (displayFrom start [] (otherSide s) .display)) cs
 
 -- from a bench: PF begins where the bench has it, and a side to which nothing was sent since shows what its inbox held at the start
 abbrev pub ClaimFrom : Bench → List Call → Type 0
@@ -142,8 +144,10 @@ pub record Refused (start : Bench) (cs : List Call) : Type 0 where
   pub same-bench : after start cs ≡ start
   pub answers : replies start cs ≡ map turnedAway cs
 
--- all three, for every list
+-- all of these, for every list
 pub record Claims : Type 0 where
-  pub from-power-on : (cs : List Call) → Claim cs
+  -- a start at any speed, accepted or refused; power-on is the one at 120
+  pub from-start : (speed : ℤ) (cs : List Call) → Claim (started speed .bench) cs
+  pub from-power-on : (cs : List Call) → Claim powerOn cs
   pub from-sound : (start : Bench) → sound start ≡ true → (cs : List Call) → ClaimFrom start cs
   pub from-unsound : (start : Bench) → sound start ≡ false → (cs : List Call) → Refused start cs

@@ -65,7 +65,7 @@ abbrev pub pilotFrom : ℕ → List Call → ℕ
 pilotFrom p [] = p
 pilotFrom p (c ∷ cs) = pilotFrom (cond (transfers c) (otherSide p) p) cs
 
--- the pilot flying's side after a list from power-on, where it is left
+-- the pilot flying's side after a list from a start, where it is left
 abbrev pub pilotFlying : List Call → ℕ
 pilotFlying cs = pilotFrom 0 cs
 

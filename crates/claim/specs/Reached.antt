@@ -6,11 +6,12 @@ use mathlib.Core.Bool.{Bool, true, false}
 use mathlib.Core.Logic.{_⊎_}
 use mathlib.Core.List.{List, [], _∷_, _++_}
 use Prim.Native.Nat.{ℕ, _≤_}
+use lib.IntN.{ℤ, pos}
 use Rattle.bench.specs.Sides.{otherSide}
-use Rattle.bench.specs.Holds.{powerOn}
+use Rattle.bench.specs.Holds.{powerOn, started}
 use Rattle.calls.specs.Calls.{Call, event, send, refresh}
 use Rattle.claim.specs.Lists.{after, transfers, refreshes, sends, pilotFlying, None, OffThroughout}
-use Rattle.claim.specs.Claim.{displayAfter}
+use Rattle.claim.specs.Claim.{displayFrom, displayAfter}
 
 -- a list of calls and a side that shows the law after it
 pub record Lateral (n : ℕ) : Type 0 where
@@ -91,6 +92,10 @@ pub record Silent (side : ℕ) : Type 0 where
   pub sent-law : displayAfter ahead (otherSide side) .display .lateral ≡ 4
   pub law : displayAfter (ahead ++ (send (otherSide side) ∷ later) ++ (refresh side ∷ [])) side .display .lateral ≡ 0
 
+-- the IAS reference that right shows when it refreshes right after a start
+abbrev pub iasAtStart : ℤ → ℤ
+iasAtStart speed = displayFrom (started speed .bench) (refresh 1 ∷ []) 1 .display .references .ias
+
 -- a list split at its last call of a kind: c is that call
 pub record Last (kind : Call → Bool) (c : Call) (cs : List Call) : Type 0 where
   pub ahead : List Call
@@ -115,3 +120,6 @@ pub record Reached : Type 0 where
   -- a list has a last accepted send of a side, or none; and so with refreshes
   pub last-send : (s : ℕ) (cs : List Call) → Last (sends s) (send s) cs ⊎ None (sends s) cs
   pub last-refresh : (s : ℕ) (cs : List Call) → Last (refreshes s) (refresh s) cs ⊎ None (refreshes s) cs
+  -- the rule shows the start that was made: with nothing sent, right has the speed asked for, or the default one if it was refused
+  pub started-at-90 : iasAtStart (pos 90) ≡ pos 90
+  pub refused-at-59 : iasAtStart (pos 59) ≡ pos 120

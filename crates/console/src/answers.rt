@@ -165,12 +165,13 @@ fn name_of(c: Command) -> usize {
         Command::Area(_) => 7,
         Command::Poke(_) => 8,
         Command::Write(_, _) => 9,
+        Command::Start(_) => 10,
         _ => 6,
     }
 }
 
 fn put_refusal(out: &mut [u8], waiting: usize, c: Command, refusal: u32) -> usize {
-    let names = b"send refresh turn reading power-on watch damage area poke write";
+    let names = b"send refresh turn reading power-on watch damage area poke write start";
     let at = put_nth(out, waiting, names, name_of(c), 0);
     let end = put_next(out, at, refusal);
     put(out, end, b'\n')

@@ -78,6 +78,11 @@ fn put_number_reason(out: &mut [u8], waiting: usize, wrong: u32) -> usize {
             b"KNOB is wheel, altitude, speed, heading or a number from 0 to 3",
         ),
         scripts::NO_CLICKS => put_text(out, waiting, b"CLICKS is a number from -128 to 127"),
+        scripts::NO_SPEED => put_text(
+            out,
+            waiting,
+            b"SPEED is a number from -2147483648 to 2147483647; a start refuses all but 60 to 400",
+        ),
         scripts::NO_KIND => put_text(
             out,
             waiting,
@@ -101,7 +106,7 @@ fn put_reason(out: &mut [u8], waiting: usize, wrong: u32) -> usize {
             out,
             waiting,
             b"no such command; there are event, press, signal, turn, knob, reading, send, refresh, \
-display, pick, power-on, bench, panel, watch, help, damage, area, poke, write, read and bytes",
+display, pick, power-on, start, bench, panel, watch, help, damage, area, poke, write, read and bytes",
         ),
         scripts::TOO_MANY => put_text(
             out,
@@ -155,7 +160,8 @@ pick SIDE           the lateral and the vertical law of a side\n\
 panel               both sides drawn\n\
 watch on            draw them after each command that can change the bench; watch off ends it\n\
 bench               all that the bench holds, in numbers\n\
-power-on            begin anew\n\
+power-on            begin anew, at 120 knots\n\
+start SPEED         begin anew at 60 to 400 knots; at any other number it is refused, and the speed is 120\n\
 damage ...          write into the bench past all rules: the manual, section 5\n\
 area LENGTH         a bus area of 0 to 2048 bytes, all 0, in place of the one before\n\
 poke START HEX      put bytes into it, as pairs of hexadecimal digits\n\

@@ -3,7 +3,7 @@ use mathlib.Core.Path.{refl}
 use Rattle.modes.specs.Sets.{engaged, armed, cleared, once, coherent}
 use Rattle.codes.specs.Codes.{codedSets, codeOf}
 use Rattle.bench.specs.Parts.{withReference}
-use Rattle.bench.specs.Holds.{startChannel, powerOn}
+use Rattle.bench.specs.Holds.{startChannel, benchAt, powerOn}
 use Rattle.frames.specs.Frames.{raised, frameOf}
 use Rattle.frames.specs.Laws.{FrameLaws, FrameExamples}
 use Rattle.frames.proofs.Areas.{frame-length, kept}
@@ -27,5 +27,5 @@ frame-laws = record {
 }
 
 pub frame-examples : FrameExamples
-unfolding frameOf raised powerOn startChannel withReference codeOf codedSets coherent once cleared armed engaged
+unfolding frameOf raised powerOn benchAt startChannel withReference codeOf codedSets coherent once cleared armed engaged
 frame-examples = record { start = refl; many = refl }

@@ -67,6 +67,6 @@ busy = record {
 
 pub record FrameExamples : Type 0 where
   -- the left side at power-on
-  pub start : frameOf 0 (box 0 powerOn) ≡ 70 ∷ 71 ∷ 66 ∷ 0 ∷ 1 ∷ 0 ∷ 0 ∷ 0 ∷ 0 ∷ 0 ∷ 50 ∷ 27 ∷ 20 ∷ 0 ∷ 90 ∷ 31 ∷ 64 ∷ 31 ∷ 64 ∷ []
+  pub start : frameOf 0 (box 0 powerOn) ≡ 70 ∷ 71 ∷ 66 ∷ 0 ∷ 1 ∷ 0 ∷ 0 ∷ 0 ∷ 0 ∷ 0 ∷ 50 ∷ 27 ∷ 20 ∷ 0 ∷ 120 ∷ 31 ∷ 64 ∷ 31 ∷ 64 ∷ []
   -- 359 is 1, 103; 400 is 1, 144; 64,000 is 250, 0
   pub many : frameOf 1 busy ≡ 70 ∷ 71 ∷ 66 ∷ 0 ∷ 1 ∷ 1 ∷ 1 ∷ 77 ∷ 1 ∷ 103 ∷ 0 ∷ 54 ∷ 19 ∷ 1 ∷ 144 ∷ 0 ∷ 0 ∷ 250 ∷ 0 ∷ []

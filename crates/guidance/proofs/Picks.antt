@@ -6,15 +6,16 @@ use Prim.Native.Nat.{ℕ}
 use native.Mathlib.Omega.{arith}
 use borrow.Author.Tests.{lt-leb, eqb-true}
 use lib.Dec.{eqb}
+use lib.IntN.{ℤ}
 use Rattle.bench.specs.declared.Bench.{Bench}
-use Rattle.bench.specs.Holds.{powerOn}
+use Rattle.bench.specs.Holds.{started}
 use Rattle.bench.specs.Sound.{sound}
 use Rattle.calls.specs.declared.answers.Display.{Display}
 use Rattle.calls.specs.Displays.{shown, blank}
 use Rattle.calls.specs.Calls.{Call, display, refusal, displayAnswer}
 use Rattle.bench.proofs.SoundParts.{by-cond}
+use Rattle.bench.proofs.StartLaws.{start-sound}
 use Rattle.claim.specs.Claim.{Keeps, modesOn}
-use Rattle.soundness.proofs.Kept.{power-on-sound}
 use Rattle.claim.proofs.Claimed.{sound-from, claim-from}
 use Rattle.guidance.specs.Picker.{pickedOf, NoLaws, Picks, Guides, RefusedPick}
 
@@ -61,5 +62,5 @@ guides-from start h cs =
       no-side = λ s l. rw (sound-from start h cs, lt-leb s 1 l);
     }
 
-pub guides : (cs : List Call) → Guides powerOn cs
-guides cs = guides-from powerOn power-on-sound cs
+pub guides : (speed : ℤ) (cs : List Call) → Guides (started speed .bench) cs
+guides speed cs = guides-from (started speed .bench) (start-sound speed) cs

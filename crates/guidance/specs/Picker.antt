@@ -36,8 +36,8 @@ pub record Picks (on : Bool) (p : Picked) : Type 0 where
   -- and of a side that is on neither is
   pub flown : on ≡ true → (1 ≤ p .lateral) × (1 ≤ p .vertical)
 
--- what holds of the picker after a list of calls from a start, whatever the calls ask for and whether or not they are refused. It is proved of power-on and of
--- every sound bench
+-- what holds of the picker after a list of calls from a start, whatever the calls ask for and whether or not they are refused. It is proved of the
+-- bench of every start and of every sound bench
 pub record Guides (start : Bench) (cs : List Call) : Type 0 where
   -- of either side it names laws that the aircraft model has
   pub picks : (s : ℕ) → s ≤ 1 → Picks (modesOn start cs s) (pickedOf (after start cs) s)

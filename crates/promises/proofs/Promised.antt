@@ -6,6 +6,7 @@ use Rattle.rotation.proofs.Sheet.{sheet-knobs}
 use Rattle.modes.proofs.Laws.{mode-laws}
 use Rattle.bench.proofs.Replaced.{part-laws}
 use Rattle.bench.proofs.WholeLaws.{reading-laws, reading-examples}
+use Rattle.bench.proofs.StartLaws.{start-laws}
 use Rattle.codes.proofs.Laws.{code-laws}
 use Rattle.frames.proofs.Laws.{frame-laws, frame-examples}
 use Rattle.steps.proofs.Rounded.{entry-laws}
@@ -42,6 +43,7 @@ promises = record {
   names-lowest = names;
   mode-laws = mode-laws;
   part-laws = part-laws;
+  start-laws = start-laws;
   reading-laws = reading-laws;
   reading-examples = reading-examples;
   feed-laws = feed-laws;

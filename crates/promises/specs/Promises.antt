@@ -4,6 +4,7 @@ use mathlib.Core.Path.{_≡_}
 use mathlib.Core.Bool.{true}
 use mathlib.Core.List.{List}
 use Prim.Native.Nat.{ℕ}
+use lib.IntN.{ℤ}
 use Rattle.rounding.specs.Laws.{WholeLaws}
 use Rattle.rounding.specs.Sheet.{SheetWhole, Edges}
 use Rattle.rotation.specs.Laws.{RotationLaws}
@@ -11,7 +12,8 @@ use Rattle.rotation.specs.Sheet.{SheetKnobs}
 use Rattle.modes.specs.declared.ModeSet.{ModeSet}
 use Rattle.modes.specs.Laws.{ModeLaws}
 use Rattle.bench.specs.declared.Bench.{Bench}
-use Rattle.bench.specs.Holds.{powerOn}
+use Rattle.bench.specs.Holds.{started}
+use Rattle.bench.specs.Starts.{StartLaws}
 use Rattle.bench.specs.Laws.{PartLaws}
 use Rattle.bench.specs.Wholes.{ReadingLaws, ReadingExamples}
 use Rattle.bench.specs.Sound.{sound}
@@ -37,18 +39,18 @@ use Rattle.sessions.specs.Laws.{SessionLaws}
 use Rattle.promises.specs.Sends.{SameAsSent}
 
 pub record Promises : Type 2 where
-  -- the entries meet their contracts, any list of calls meets demand 3, and the bench sheet holds
+  -- the entries meet their contracts, any list of calls from any start meets demand 3, and the bench sheet holds
   pub delivered : Delivered
-  -- the same claim of the rules alone, from power-on, from any sound bench and from an unsound one
+  -- the same claim of the rules alone, from any start, from any sound bench and from an unsound one
   pub claims : Claims
   -- the claim over lists is not empty
   pub reached : Reached
   -- what turns independent operation on, what can't, and what ends it
   pub independent-laws : IndependentLaws
-  -- every list of calls can be handed to `replay::run_to`
+  -- every list of calls can be handed to `replay::run_to` and to `replay::start_and_run`
   pub coding : (cs : List Call) → Coding cs
-  -- the picker names laws that can be flown, from power-on and from any sound bench; what it refuses has the laws 0 and 0
-  pub guides : (cs : List Call) → Guides powerOn cs
+  -- the picker names laws that can be flown, from any start and from any sound bench; what it refuses has the laws 0 and 0
+  pub guides : (speed : ℤ) (cs : List Call) → Guides (started speed .bench) cs
   pub guides-from : (start : Bench) → sound start ≡ true → (cs : List Call) → Guides start cs
   pub refused-pick : (b : Bench) (s : ℕ) → RefusedPick b s
   -- sound benches stay sound, sets show laws in range, and an event word stands for its lowest bit
@@ -58,6 +60,8 @@ pub record Promises : Type 2 where
   -- 107 coherent sets, changes that keep coherence, events and their numbers
   pub mode-laws : ModeLaws
   pub part-laws : PartLaws
+  -- which starting speeds are accepted, what an accepted and a refused start give, and that the reading is exactly the speed
+  pub start-laws : StartLaws
   -- a reading's whole value is its nearest integer, but for heading 360 and roll 180, is what it is accepted by, and is kept beside it on a sound bench
   pub reading-laws : ReadingLaws
   pub reading-examples : ReadingExamples

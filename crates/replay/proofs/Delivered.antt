@@ -2,9 +2,11 @@
 use mathlib.Core.Path.{_≡_, refl, _∙_, ap}
 use mathlib.Core.List.{List, [], _∷_}
 use Prim.Native.Nat.{ℕ}
+use lib.IntN.{ℤ, pos}
 use Rattle.bench.specs.declared.Bench.{Bench}
-use Rattle.bench.specs.Holds.{powerOn}
+use Rattle.bench.specs.Holds.{powerOn, started}
 use Rattle.bench.proofs.power_on.Met.{met as power-on-met}
+use Rattle.bench.proofs.start.Met.{met as start-met}
 use Rattle.calls.specs.declared.answers.Answer.{Answer}
 use Rattle.calls.specs.declared.answers.EventAnswer.{EventAnswer}
 use Rattle.calls.specs.declared.answers.DisplayAnswer.{DisplayAnswer}
@@ -19,7 +21,7 @@ use Rattle.claim.specs.Lists.{after, replies}
 use Rattle.claim.specs.Claim.{displayFrom}
 use Rattle.claim.proofs.Claimed.{claim, claim-from, refused-from}
 use Rattle.claim.proofs.Sheet.{sheet}
-use Rattle.replay.specs.Runs.{Run, stop, called-event, called-turn, called-reading, called-send, called-refresh, called-display, DisplayGives, DemandFrom, Demand, Delivered}
+use Rattle.replay.specs.Runs.{Run, stop, called-event, called-turn, called-reading, called-send, called-refresh, called-display, DisplayGives, DemandFrom, DemandAt, DemandPowerOn, Delivered}
 
 -- ---- a run's bench and replies: each answer is the one that the contract gives
 
@@ -77,19 +79,29 @@ demand-from start cs = record {
   refused = λ h. refused-from start h cs;
 }
 
-demand : (cs : List Call) → Demand cs
-demand cs = record { starts = refl; starts-only = λ p e. e; from-there = demand-from powerOn cs; displays = λ d xs k. shown-after k; rules = claim cs }
+demand-at : (speed : ℤ) (cs : List Call) → DemandAt speed cs
+demand-at speed cs = record {
+  starts = refl;
+  starts-only = λ p e. e;
+  demand = record { from-there = demand-from (started speed .bench) cs; rules = claim speed cs };
+}
+
+demand-power-on : (cs : List Call) → DemandPowerOn cs
+unfolding powerOn started
+demand-power-on cs = record { starts = refl; starts-only = λ p e. e; demand = demand-at (pos 120) cs .demand }
 
 pub delivered : Delivered
 delivered = record {
   power-on-meets = power-on-met;
+  start-meets = start-met;
   event-meets = event-met;
   turn-meets = turn-met;
   reading-meets = reading-met;
   send-meets = send-met;
   refresh-meets = refresh-met;
   display-meets = display-met;
-  every-list = demand;
-  every-start = demand-from;
+  every-start = demand-at;
+  every-list = demand-power-on;
+  every-bench = demand-from;
   sheet = sheet;
 }

@@ -4,16 +4,19 @@ use mathlib.Core.Bool.{true, false, cond}
 use mathlib.Core.List.{List, [], _∷_}
 use Prim.Native.Nat.{ℕ, zero, suc}
 use lib.Dec.{eqb}
+use lib.IntN.{ℤ}
 use lib.ListN.{length}
 use lib.Ieee.{Float}
 use Rattle.bench.specs.declared.Reading.{Reading}
 use Rattle.bench.specs.declared.Bench.{Bench}
+use Rattle.bench.specs.Holds.{started}
 use Rattle.bench.specs.Sound.{sound}
 use Rattle.calls.specs.Calls.{Call, event, turn, reading, send, refresh, display, next, Reply, plain, told, shows, reply}
 use Rattle.claim.specs.Lists.{after, replies}
 use Rattle.claim.specs.Claim.{ClaimFrom, Refused}
 use Rattle.replay.specs.declared.LastReply.{LastReply}
 use Rattle.replay.specs.declared.Served.{Served}
+use Rattle.replay.specs.declared.Ran.{Ran}
 
 -- ---- calls
 
@@ -74,3 +77,11 @@ pub record RanTo (start : Bench) (cs : List Call) (r : Served) : Type 0 where
   pub same-reply : r .reply ≡ last (replies start cs)
   pub rules : sound start ≡ true → ClaimFrom start cs
   pub refused : sound start ≡ false → Refused start cs
+
+-- ---- a start at a speed and then the calls cs (document 02, 2026-06): the start's refusal, and what the calls leave of its bench and answer last. That demand 3 holds of
+-- the rules from every start is `DemandAt` of Runs
+unfoldable pub ranFrom : ℤ → List Call → Ran
+ranFrom speed cs = record {
+  refusal = started speed .refusal;
+  served = record { bench = after (started speed .bench) cs; reply = last (replies (started speed .bench) cs) };
+}

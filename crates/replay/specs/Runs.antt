@@ -1,16 +1,20 @@
--- Runs of the calls as the code's own contracts allow them, and the whole of demand 3 of them. Document 01, 'The claim over a list of calls'. What an entry's contract
+-- Runs of the calls as the code's own contracts allow them, and the whole of demand 3 of them. Document 01, 'The claim over a list of calls'; document 02, 2026-06. What an entry's contract
 -- says of a result is what the entry's own crate passes on to its callers (`Learnt`), so that a weaker contract allows more runs. Definitions and the statement only;
 -- the proof is in proofs/.
 use mathlib.Core.Path.{_≡_}
 use mathlib.Core.Bool.{true, false}
 use mathlib.Core.List.{List, [], _∷_}
 use Prim.Native.Nat.{ℕ}
+use lib.IntN.{ℤ}
 use Rattle.bench.specs.declared.Reading.{Reading}
 use Rattle.bench.specs.declared.Bench.{Bench}
-use Rattle.bench.specs.Holds.{powerOn}
+use Rattle.bench.specs.declared.Started.{Started}
+use Rattle.bench.specs.Holds.{powerOn, started}
 use Rattle.bench.specs.Sound.{sound}
 use Rattle.bench.proofs.power_on.Statement.{statement as power-on-statement}
 use Rattle.bench.proofs.power_on.Reads as power-on-reads
+use Rattle.bench.proofs.start.Statement.{statement as start-statement}
+use Rattle.bench.proofs.start.Reads as start-reads
 use Rattle.calls.specs.declared.answers.Answer.{Answer}
 use Rattle.calls.specs.declared.answers.EventAnswer.{EventAnswer}
 use Rattle.calls.specs.declared.answers.DisplayAnswer.{DisplayAnswer}
@@ -28,13 +32,16 @@ use Rattle.calls.proofs.refresh.Reads as refresh-reads
 use Rattle.calls.proofs.display.Reads as display-reads
 use Rattle.calls.specs.Calls.{Call, event, turn, reading, send, refresh, display, Reply, plain, told, shows}
 use Rattle.claim.specs.Lists.{after, replies}
-use Rattle.claim.specs.Claim.{displayFrom, displayAfter, Claim, ClaimFrom, Refused}
+use Rattle.claim.specs.Claim.{displayFrom, Claim, ClaimFrom, Refused}
 use Rattle.claim.specs.Sheet.{Sheet}
 
 -- ---- what each entry's contract says of a result
 
 abbrev pub PowerOnGives : Bench → Type 0
 PowerOnGives r = power-on-reads.Learnt tt tt r tt
+
+abbrev pub StartGives : ℤ → Started → Type 0
+StartGives speed r = start-reads.Learnt tt (speed, tt) r (speed, tt)
 
 abbrev pub EventGives : Bench → ℕ → EventAnswer → Type 0
 EventGives b word r = event-reads.Learnt tt (b, (word, tt)) r (b, (word, tt))
@@ -88,25 +95,35 @@ pub record DemandFrom (start : Bench) (cs : List Call) : Type 0 where
   -- from an unsound bench every call is answered 1, and the bench stays
   pub refused : sound start ≡ false → Refused start cs
 
--- of a list of calls from power-on
-pub record Demand (cs : List Call) : Type 0 where
-  -- the first call gets what the contract of power-on allows, and that is the rules' bench
+-- of a list of calls from the bench of a start: the rules then speak of that start where the demand says power-on
+pub record Demand (start : Bench) (cs : List Call) : Type 0 where
+  pub from-there : DemandFrom start cs
+  pub rules : Claim start cs
+
+-- of a list of calls from a start at a speed, accepted or refused
+pub record DemandAt (speed : ℤ) (cs : List Call) : Type 0 where
+  -- the first call gets what the contract of the start allows, and that is the rules' answer
+  pub starts : StartGives speed (started speed)
+  pub starts-only : (p : Started) → StartGives speed p → p ≡ started speed
+  pub demand : Demand (started speed .bench) cs
+
+-- and from power-on, which is an instance
+pub record DemandPowerOn (cs : List Call) : Type 0 where
   pub starts : PowerOnGives powerOn
   pub starts-only : (p : Bench) → PowerOnGives p → p ≡ powerOn
-  pub from-there : DemandFrom powerOn cs
-  -- what the code's display of a side answers after a run
-  pub displays : (d : Bench) (xs : List Reply) → Run powerOn cs d xs → (s : ℕ) (r : DisplayAnswer) → DisplayGives d s r → r ≡ displayAfter cs s
-  pub rules : Claim cs
+  pub demand : Demand powerOn cs
 
--- the entries meet the contracts that runs go by, every list of calls meets the demand, from power-on and from any bench, and the bench sheet holds
+-- the entries meet the contracts that runs go by, every list of calls meets the demand, from any start and from any bench, and the bench sheet holds
 pub record Delivered : Type 2 where
   pub power-on-meets : {M : Type 1} → power-on-statement M
+  pub start-meets : {M : Type 1} → start-statement M
   pub event-meets : {M : Type 1} → event-statement M
   pub turn-meets : {M : Type 1} → turn-statement M
   pub reading-meets : {M : Type 1} → reading-statement M
   pub send-meets : {M : Type 1} → send-statement M
   pub refresh-meets : {M : Type 1} → refresh-statement M
   pub display-meets : {M : Type 1} → display-statement M
-  pub every-list : (cs : List Call) → Demand cs
-  pub every-start : (start : Bench) (cs : List Call) → DemandFrom start cs
+  pub every-start : (speed : ℤ) (cs : List Call) → DemandAt speed cs
+  pub every-list : (cs : List Call) → DemandPowerOn cs
+  pub every-bench : (start : Bench) (cs : List Call) → DemandFrom start cs
   pub sheet : Sheet

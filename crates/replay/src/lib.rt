@@ -1,7 +1,7 @@
-// Lists of calls, held as slices of numbers, run through the calls of the bench from any bench.
+// Lists of calls, held as slices of numbers, run through the calls of the bench from any bench, or from a start.
 ghost use mathlib.Core.Path.{_≡_};
 ghost use Rattle.calls.specs.Calls.{event, turn, reading, send, refresh, display};
-ghost use Rattle.replay.specs.Coded.{callOf, callsTo, servedBy, RanTo};
+ghost use Rattle.replay.specs.Coded.{callOf, callsTo, servedBy, RanTo, ranFrom};
 ghost use Rattle.replay.specs.Private.{Least, Held, Shortest, callAt};
 use bench::Bench;
 use bench::Reading;
@@ -19,6 +19,12 @@ pub enum LastReply {
 pub struct Served {
     pub bench: Bench,
     pub reply: LastReply,
+}
+
+// What a start and the calls after it answer: the start's refusal, and what the calls left.
+pub struct Ran {
+    pub refusal: u32,
+    pub served: Served,
 }
 
 fn serve_event(b: Bench, word: u32) -> Served
@@ -163,4 +169,24 @@ pub fn run_to(
         i += 1;
     }
     s
+}
+
+// The same from a start at a speed. A refused start gives the default bench, and the calls go on from there.
+pub fn start_and_run(
+    speed: i32,
+    kinds: &[u32],
+    numbers: &[u32],
+    counts: &[u8],
+    values: &[f64],
+    n: usize,
+) -> Ran
+    ensures { λ res. ⌜ res ≡ ranFrom speed (callsTo n (now (kinds .entry)) (now (numbers .entry)) (now (counts .entry)) (now (values .entry))) ⌝ }
+{
+    let s = bench::start(speed);
+    let begun = s.bench;
+    let served = run_to(begun, kinds, numbers, counts, values, n);
+    Ran {
+        refusal: s.refusal,
+        served,
+    }
 }

@@ -19,10 +19,10 @@ use Rattle.numerals.proofs.Numerals.{number-fits}
 use Rattle.scripts.specs.declared.Command.{Command}
 use Rattle.scripts.specs.declared.places.Named.{Named}
 use Rattle.scripts.specs.declared.damage.Given.{Given}
-use Rattle.scripts.specs.Commands.{tooMany, noCommand, noWord, noSide, noKnobNumber, noCount, noKnob, noClicks, noSwitch, noSignal, noWatch, noKind, noDamage, noPf, noReference, noSigned, noSet, noLength, noStart, noPairs, noFlag}
+use Rattle.scripts.specs.Commands.{tooMany, noCommand, noWord, noSide, noKnobNumber, noCount, noKnob, noClicks, noSwitch, noSignal, noWatch, noKind, noDamage, noPf, noReference, noSigned, noSet, noLength, noStart, noPairs, noFlag, noSpeed}
 use Rattle.scripts.specs.Commands.{commandNames, watchNames, damageNames, partNames, absent, endsAt, ifNumber, ifReading, ifSet, ifSigned, ifStart}
 use Rattle.scripts.specs.Commands.{numberAt, sideAt, knobAt, kindAt, readingAt, startAt, figureAt, setBy, isSwitch, isSignal, eventNamed}
-use Rattle.scripts.specs.Commands.{eventOf, withSide, turnBy, turnOf, clicksBy, clicksOf, eventIf, watchBy, areaOfLength, pokeBy, pokeOf, writeBy, writeOf, readOf}
+use Rattle.scripts.specs.Commands.{eventOf, withSide, turnBy, turnOf, clicksBy, clicksOf, eventIf, watchBy, startOf, areaOfLength, pokeBy, pokeOf, writeBy, writeOf, readOf}
 use Rattle.scripts.specs.Commands.{damagePf, damageIndependent, damageSet, damageNumber, damagePart, damageWhole, damageBy, commandBy, commandIn, textOf, commandOf, pairsOf}
 use Rattle.scripts.specs.Laws.{LineLaws}
 
@@ -39,6 +39,7 @@ meets text (Command.Turn knob count) = true
 meets text (Command.Knob knob clicks) = true
 meets text (Command.Reading r) = true
 meets text Command.PowerOn = true
+meets text (Command.Start speed) = true
 meets text Command.Bench = true
 meets text Command.Panel = true
 meets text Command.Help = true
@@ -91,9 +92,9 @@ module _ {text : List ℕ} where
   set (Given.Is s) h = h s
   set Given.Wrong h = wrong noSet
 
-  signed : (x : Signed) {ask : ℤ → Command} → ((z : ℤ) → Meets text (ask z)) → Meets text (ifSigned x ask)
-  signed (Signed.Is z) h = h z
-  signed Signed.Wrong h = wrong noSigned
+  signed : (x : Signed) {ask : ℤ → Command} (why : ℕ) → ((z : ℤ) → Meets text (ask z)) → Meets text (ifSigned x ask (Command.Wrong why))
+  signed (Signed.Is z) why h = h z
+  signed Signed.Wrong why h = wrong why
 
 -- ---- the commands
 
@@ -128,10 +129,14 @@ module _ (text : List ℕ) where
   unfolding watchBy
   watch n = either (ltb n 2) (λ t. ends 2 (plain (Command.Watch (eqb n 1)) refl)) (wrong noWatch)
 
+  begin : Meets text (startOf text)
+  unfolding startOf
+  begin = signed (signedIn (wordOf text 1)) noSpeed (λ z. ends 2 (plain (Command.Start z) refl))
+
   signed-number : (part place : ℕ) → Meets text (damageNumber part place text)
   unfolding damageNumber
   signed-number part place =
-      signed (signedIn (wordOf text 3))
+      signed (signedIn (wordOf text 3)) noSigned
       (λ z. ends 4 (either (eqb part 4) (λ t. plain (Command.DamageWhole place z) refl) (plain (Command.DamageReference part place z) refl)))
 
   part : (what box : ℕ) → Meets text (damagePart what box text)
@@ -190,11 +195,12 @@ module _ (text : List ℕ) where
       (either (eqb command 18) (λ t. write)
       (either (eqb command 19) (λ t. read)
       (either (eqb command 20) (λ t. ends 1 (plain Command.Bytes refl))
-      (wrong noCommand))))))))))))))))))
+      (either (eqb command 21) (λ t. begin)
+      (wrong noCommand)))))))))))))))))))
 
   in-text : Meets text (commandIn text)
   unfolding commandIn
-  in-text = either (absent text 0) (λ t. plain Command.Blank refl) (by-number (lookupOf (wordOf text 0) commandNames 21))
+  in-text = either (absent text 0) (λ t. plain Command.Blank refl) (by-number (lookupOf (wordOf text 0) commandNames 22))
 
 pub line-laws : LineLaws
 unfolding commandOf pairsOf

@@ -98,10 +98,13 @@ noPairs = 22
 abbrev pub noFlag : ℕ
 noFlag = 24
 
+abbrev pub noSpeed : ℕ
+noSpeed = 25
+
 -- ---- the names, in the order of their numbers from 0
 
 unfoldable pub commandNames : List ℕ
-commandNames = bytes "event send refresh display pick turn knob reading press signal power-on bench panel help watch damage area poke write read bytes"
+commandNames = bytes "event send refresh display pick turn knob reading press signal power-on bench panel help watch damage area poke write read bytes start"
 
 -- the events, which are switches and signals
 unfoldable pub eventNames : List ℕ
@@ -152,6 +155,11 @@ namedIn names total most w = cond (ltb (lookupOf w names total) total) (Number.I
 abbrev pub ifNumber : Number → (ℕ → Command) → Command → Command
 ifNumber (Number.Is n) ask other = ask n
 ifNumber Number.Wrong ask other = other
+
+-- the same of signed numbers, which have 32 bits
+abbrev pub ifSigned : Signed → (ℤ → Command) → Command → Command
+ifSigned (Signed.Is x) ask other = ask x
+ifSigned Signed.Wrong ask other = other
 
 -- event WORD
 unfoldable pub eventOf : List ℕ → Command
@@ -217,6 +225,11 @@ signalOf text = eventIf (isSignal (eventNamed text)) noSignal (eventNamed text) 
 
 unfoldable pub watchBy : ℕ → List ℕ → Command
 watchBy n text = cond (ltb n 2) (endsAt text 2 (Command.Watch (eqb n 1))) (Command.Wrong noWatch)
+
+-- ---- start SPEED, of any signed number: the start itself refuses what it does not accept (document 02, 2026-06)
+
+unfoldable pub startOf : List ℕ → Command
+startOf text = ifSigned (signedIn (wordOf text 1)) (λ speed. endsAt text 2 (Command.Start speed)) (Command.Wrong noSpeed)
 
 -- ---- readings: reading KIND VALUE, and damage reading KIND VALUE
 
@@ -291,17 +304,13 @@ unfoldable pub damageSet : ℕ → List ℕ → Command
 damageSet box text =
     ifSet (setBy (figureAt text 3) (figureAt text 4) (figureAt text 5) (figureAt text 6)) (λ set. endsAt text 7 (Command.DamageSet box set))
 
-abbrev pub ifSigned : Signed → (ℤ → Command) → Command
-ifSigned (Signed.Is x) ask = ask x
-ifSigned Signed.Wrong ask = Command.Wrong noSigned
-
 -- a signed number goes to a reference of a box, 0 to 3, or, as part 4, to the whole value of a kind
 abbrev pub numberBy : ℕ → ℕ → ℤ → Command
 numberBy part place x = cond (eqb part 4) (Command.DamageWhole place x) (Command.DamageReference part place x)
 
 -- damage BOX REFERENCE N and damage whole KIND N, a signed number of 32 bits
 unfoldable pub damageNumber : ℕ → ℕ → List ℕ → Command
-damageNumber part place text = ifSigned (signedIn (wordOf text 3)) (λ x. endsAt text 4 (numberBy part place x))
+damageNumber part place text = ifSigned (signedIn (wordOf text 3)) (λ x. endsAt text 4 (numberBy part place x)) (Command.Wrong noSigned)
 
 -- by the number of a name of partNames
 unfoldable pub damagePart : ℕ → ℕ → List ℕ → Command
@@ -379,11 +388,12 @@ commandBy command text =
     (cond (eqb command 18) (writeOf text)
     (cond (eqb command 19) (readOf text)
     (cond (eqb command 20) (endsAt text 1 Command.Bytes)
-    (Command.Wrong noCommand))))))))))))))))))
+    (cond (eqb command 21) (startOf text)
+    (Command.Wrong noCommand)))))))))))))))))))
 
 -- a line without a word asks for nothing
 unfoldable pub commandIn : List ℕ → Command
-commandIn text = cond (absent text 0) Command.Blank (commandBy (lookupOf (wordOf text 0) commandNames 21) text)
+commandIn text = cond (absent text 0) Command.Blank (commandBy (lookupOf (wordOf text 0) commandNames 22) text)
 
 -- byte 35, '#', starts a comment
 abbrev pub textOf : List ℕ → List ℕ

@@ -8,11 +8,12 @@ ghost use mathlib.Core.Bool.{true};
 ghost use Prim.Native.Nat.{_<_, _^_};
 ghost use Rattle.words.specs.Words.{wordOf, lookupOf};
 ghost use Rattle.scripts.specs.Commands.{endsAt, readingAt, ifReading, eventOf, sideBy, withSide, knobAt, turnBy, turnOf, clicksBy, clicksOf};
-ghost use Rattle.scripts.specs.Commands.{isSignal, isSwitch, eventNamed, eventIf, pressOf, signalOf, watchNames, watchBy, commandBy, commandIn, textOf, commandOf, pairsOf};
+ghost use Rattle.scripts.specs.Commands.{isSignal, isSwitch, eventNamed, eventIf, pressOf, signalOf, watchNames, watchBy, startOf, commandBy, commandIn, textOf, commandOf, pairsOf};
 use bench::Reading;
 use damage::damage;
 use modes::ModeSet;
 use numerals::answers::Number;
+use numerals::answers::Signed;
 use places::Named;
 use places::ends_at;
 use places::name_or_number;
@@ -35,6 +36,8 @@ pub enum Command {
     Knob(u32, u8),
     Reading(Reading),
     PowerOn,
+    // at a speed in knots
+    Start(i32),
     Bench,
     Panel,
     Help,
@@ -103,6 +106,8 @@ pub const NO_PAIRS: u32 = 22;
 pub const NO_ROOM: u32 = 23;
 
 pub const NO_FLAG: u32 = 24;
+
+pub const NO_SPEED: u32 = 25;
 
 fn event(text: &[u8]) -> Command
     ensures { λ res. ⌜ res ≡ eventOf (now (text .entry)) ⌝ }
@@ -272,6 +277,16 @@ fn reading(text: &[u8]) -> Command
     }
 }
 
+fn start(text: &[u8]) -> Command
+    ensures { λ res. ⌜ res ≡ startOf (now (text .entry)) ⌝ }
+{
+    let speed = numerals::signed(words::word(text, 1));
+    match speed {
+        Signed::Is(x) => ends_at(text, 2, Command::Start(x)),
+        Signed::Wrong => Command::Wrong(NO_SPEED),
+    }
+}
+
 // The command of a number, from the words of a text.
 fn command_by(command: usize, text: &[u8]) -> Command
     ensures { λ res. ⌜ res ≡ commandBy command (now (text .entry)) ⌝ }
@@ -295,6 +310,7 @@ fn command_by(command: usize, text: &[u8]) -> Command
         18 => area::write(text),
         19 => area::read(text),
         20 => ends_at(text, 1, Command::Bytes),
+        21 => start(text),
         _ => Command::Wrong(NO_COMMAND),
     }
 }
@@ -304,12 +320,12 @@ fn command_in(text: &[u8]) -> Command
 {
     let names =
         b"event send refresh display pick turn knob reading press signal power-on bench panel help \
-        watch damage area poke write read bytes";
+        watch damage area poke write read bytes start";
     let name = words::word(text, 0);
     if name.len() == 0 {
         return Command::Blank;
     }
-    let command = words::lookup(name, names, 21);
+    let command = words::lookup(name, names, 22);
     command_by(command, text)
 }
 

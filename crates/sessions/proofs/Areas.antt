@@ -28,6 +28,7 @@ module _ (line : List ℕ) (b : Bench) (area : List ℕ) (h : length area ≤ 20
   by-command (Command.Knob knob clicks) k = h
   by-command (Command.Reading r) k = h
   by-command Command.PowerOn k = h
+  by-command (Command.Start speed) k = h
   by-command Command.Bench k = h
   by-command Command.Panel k = h
   by-command Command.Help k = h

@@ -1,4 +1,4 @@
--- Sound benches stay sound: the bench of power-on is sound, and of a sound bench every call, accepted or refused, makes a sound one.
+-- Sound benches stay sound: the bench of every start is sound, and of a sound bench every call, accepted or refused, makes a sound one.
 -- The laws that a side shows are within 0 to 5 and 0 to 8, and 0 exactly where its set is Off. Document 01, 'Who can be turned away' and 'Display'. Assumes nothing.
 use mathlib.Core.Path.{_≡_, refl, ap}
 use mathlib.Core.Bool.{true, _&&_}
@@ -6,8 +6,6 @@ use Prim.Native.Nat.{ℕ, _≤_}
 use native.Mathlib.Omega.{arith}
 use lib.Dec.{T, eqb, leb, leb→le}
 use lib.Count.{trailingZeros}
-use lib.Ieee.{ofBits}
-use Rattle.rounding.specs.Whole.{wholeOf}
 use Rattle.modes.specs.declared.Modes.{Modes}
 use Rattle.modes.specs.declared.ModeSet.{ModeSet}
 use Rattle.modes.specs.Finite.{Finite, every, all}
@@ -16,24 +14,15 @@ use Rattle.modes.specs.Events.{eventAt}
 use Rattle.modes.proofs.Finite.{at, both-left, both-right}
 use Rattle.modes.proofs.Every.{laterals, verticals}
 use Rattle.bench.specs.declared.Bench.{Bench}
-use Rattle.bench.specs.Parts.{withReference}
-use Rattle.bench.specs.Ranges.{referenceRange}
-use Rattle.bench.specs.Readings.{wholeReading, refusalOf, wholeNumber}
-use Rattle.bench.specs.Holds.{startChannel, powerOn}
-use Rattle.bench.specs.Independent.{independentSound, ended}
-use Rattle.bench.specs.Sound.{referencesSound, channelSound, readingsSound, sound}
+use Rattle.bench.specs.Independent.{ended}
+use Rattle.bench.specs.Sound.{sound}
 use Rattle.steps.proofs.ByEvent.{by-event}
 use Rattle.calls.specs.Calls.{Call, event, turn, reading, send, refresh, display, ownRefusal, refusal, done, next}
 use Rattle.soundness.specs.Kept.{KeepsSound, LawsInRange}
 use Rattle.bench.proofs.SoundParts.{by-cond, PartsIn, parts, whole}
+use Rattle.bench.proofs.StartLaws.{start-sound}
 use Rattle.soundness.proofs.Kept.Changes.{three-sound, turned-sound, received-sound, sent-sound, refreshed-sound, begun-sound, ended-sound, ended-holds}
 pub mod Changes
-
--- ---- power-on, computed
-
-pub power-on-sound : sound powerOn ≡ true
-unfolding sound independentSound powerOn startChannel withReference referenceRange channelSound referencesSound readingsSound refusalOf wholeReading wholeNumber wholeOf ofBits
-power-on-sound = refl
 
 -- ---- the calls
 
@@ -57,7 +46,7 @@ next-sound b c h =
     (λ e. whole (ended (done c b)) (ended-sound (done c b) (done-sound c b e (parts b h))) (ended-holds (done c b))) (λ e. h))
 
 pub keeps-sound : KeepsSound
-keeps-sound = record { power-on = power-on-sound; call = next-sound }
+keeps-sound = record { start = start-sound; call = next-sound }
 
 -- ---- the laws
 

@@ -1,2 +1,2 @@
-// Theorems only, in proofs/: the bench of power-on is sound, every call keeps a sound bench sound, and the
+// Theorems only, in proofs/: the bench of every start is sound, every call keeps a sound bench sound, and the
 // event acted on is the lowest bit of its word.

@@ -242,7 +242,7 @@ fn step(b: Bench, reads: bool, word: u64, area: &mut [u8; 2048], sum: u64, live:
 
 // The steps of a list, over an area as it is; the checksum.
 fn run_steps(area: &mut [u8; 2048], seed: u64, calls: u64, reads: bool, live: bool) -> u64 {
-    let mut b = bench::power_on();
+    let mut b = crate::list::first_bench();
     let mut sum: u64 = 0;
     let mut word = crate::list::first(seed);
     let mut left = calls;

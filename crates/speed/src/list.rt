@@ -1,6 +1,15 @@
-// The list: a pseudo-random word for each call, and the kind and the arguments that a word gives.
+// The list: the bench that it begins with, a pseudo-random word for each call, and the kind and the
+// arguments that a word gives.
 ghost use Prim.Native.Nat.{_<_, _≤_};
+use bench::Bench;
 use bench::Reading;
+
+// The bench that a list begins with. The baseline powers on at 90 knots.
+pub(crate) fn first_bench() -> Bench {
+    let s = bench::start(90);
+    let b = s.bench;
+    b
+}
 
 // The word after a word: Marsaglia's xorshift by 13, 7 and 17, which goes through all words but 0.
 pub(crate) fn shuffled(word: u64) -> u64 {

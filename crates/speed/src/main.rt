@@ -1,4 +1,4 @@
-// Makes a pseudo-random list of calls on one bench from power-on, and writes a checksum of all the
+// Makes a pseudo-random list of calls on one bench from a start, and writes a checksum of all the
 // answers and of the bench at the end; or a list of frames that are written, or read, in one bus area.
 // tests/baseline makes the same lists and measures both.
 //
@@ -109,10 +109,10 @@ fn step(b: Bench, kind: u64, word: u64, sum: u64, live: bool) -> Run {
     }
 }
 
-// The whole list, from power-on. Answers the checksum, with the bench at the end in it. The kind of
+// The whole list, from its first bench. Answers the checksum, with the bench at the end in it. The kind of
 // each call is in the sum too.
 fn run_list(seed: u64, calls: u64, chosen: u64, live: bool) -> u64 {
-    let start = bench::power_on();
+    let start = list::first_bench();
     let mut s = run_on(start, 0);
     let mut word = list::first(seed);
     let mut left = calls;

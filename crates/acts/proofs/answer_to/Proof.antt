@@ -1,7 +1,7 @@
 -- `acts::answer_to` meets its contract: each arm hands on the answer of its call, or the bench that it made.
--- The last twenty-six needs are the arms, in the order of the commands. Assumes nothing.
+-- The last twenty-seven needs are the arms, in the order of the commands. Assumes nothing.
 use mathlib.Core.Path.{_∙_, ap}
-use Rattle.acts.specs.Acts.{eventless, leaves, answerTo}
+use Rattle.acts.specs.Acts.{eventless, startAnswer, leaves, answerTo}
 use borrow.Author.Needs.{needs}
 use Rattle.acts.proofs.answer_to.Statement.{statement}
 use Rattle.acts.proofs.answer_to.Tie as tie
@@ -26,6 +26,9 @@ answer-to-spec =
     (λ c. search needs)
     (λ c κs. search needs)
     (λ c. search needs)
+    (λ c κs. search needs)
+    (λ c. search needs)
+    (λ c κs. search needs)
     (λ c κs. search needs)
     (λ c. search needs)
     (λ c κs. search needs)
@@ -86,16 +89,17 @@ answer-to-spec =
     (λ c. rw (c .before .before .before .c5 .given .1) (c .plain4 .ensures ∙ ap eventless (c .before .click .ensures)))
     (λ c. rw (c .before .before .before .c6 .given .1) (c .plain5 .ensures ∙ ap eventless (c .before .reading .ensures)))
     (λ c. rw (c .before .before .enum-told5 .given .1) (c .bench-alone5 .ensures ∙ ap leaves (c .before .power-on .ensures)))
+    (λ c. rw (c .before .before .before .c7 .given .1) (c .start-answer .ensures ∙ ap startAnswer (c .before .start .ensures) ∙ search needs))
     (λ c. rw (c .before .enum-told6 .given .1) (c .bench-alone6 .ensures))
     (λ c. rw (c .before .enum-told7 .given .1) (c .bench-alone7 .ensures))
     (λ c. rw (c .before .enum-told8 .given .1) (c .bench-alone8 .ensures))
     (λ c. rw (c .before .enum-told9 .given .1) (c .bench-alone9 .ensures))
-    (λ c. rw (c .before .before .before .c7 .given .1) (c .bench-alone10 .ensures ∙ ap leaves (c .before .damage-pf .ensures)))
-    (λ c. rw (c .before .before .before .c8 .given .1) (c .bench-alone11 .ensures ∙ ap leaves (c .before .damage-reading .ensures)))
-    (λ c. rw (c .before .before .before .c9 .given .1) (c .bench-alone12 .ensures ∙ ap leaves (c .before .damage-whole .ensures) ∙ search needs))
-    (λ c. rw (c .before .before .before .c10 .given .1) (c .bench-alone13 .ensures ∙ ap leaves (c .before .damage-set .ensures)))
-    (λ c. rw (c .before .before .before .c11 .given .1) (c .bench-alone14 .ensures ∙ ap leaves (c .before .damage-reference .ensures) ∙ search needs))
-    (λ c. rw (c .before .before .before .c12 .given .1) (c .bench-alone15 .ensures ∙ ap leaves (c .before .with-operation .ensures)))
+    (λ c. rw (c .before .before .before .c8 .given .1) (c .bench-alone10 .ensures ∙ ap leaves (c .before .damage-pf .ensures)))
+    (λ c. rw (c .before .before .before .c9 .given .1) (c .bench-alone11 .ensures ∙ ap leaves (c .before .damage-reading .ensures)))
+    (λ c. rw (c .before .before .before .c10 .given .1) (c .bench-alone12 .ensures ∙ ap leaves (c .before .damage-whole .ensures) ∙ search needs))
+    (λ c. rw (c .before .before .before .c11 .given .1) (c .bench-alone13 .ensures ∙ ap leaves (c .before .damage-set .ensures)))
+    (λ c. rw (c .before .before .before .c12 .given .1) (c .bench-alone14 .ensures ∙ ap leaves (c .before .damage-reference .ensures) ∙ search needs))
+    (λ c. rw (c .before .before .before .c13 .given .1) (c .bench-alone15 .ensures ∙ ap leaves (c .before .with-operation .ensures)))
     (λ c. rw (c .before .enum-told10 .given .1) (c .bench-alone16 .ensures))
     (λ c. rw (c .before .enum-told11 .given .1) (c .bench-alone17 .ensures))
     (λ c. rw (c .before .enum-told12 .given .1) (c .bench-alone18 .ensures))

@@ -9,8 +9,8 @@ Inv-loop seed calls chosen live s₀ word₀ left₀ s word left = Unit {0}
 abbrev μ-loop : tie.MeasureT-loop
 μ-loop seed calls chosen live s₀ word₀ left₀ s word left = left
 
-power-on-requires : tie.Need-power-on-requires Inv-loop μ-loop
-power-on-requires c κs = search needs
+first-bench-requires : tie.Need-first-bench-requires Inv-loop μ-loop
+first-bench-requires c κs = search needs
 
 run-on-requires : tie.Need-run-on-requires Inv-loop μ-loop
 run-on-requires c κs = search needs
@@ -49,5 +49,5 @@ pub run-list-spec : {M : Type 1} → statement M
 run-list-spec =
     tie.close
     (tie.spec
-    Inv-loop μ-loop power-on-requires run-on-requires first-requires loop-holds kind-requires step-requires shuffled-requires sub-left loop-less
+    Inv-loop μ-loop first-bench-requires run-on-requires first-requires loop-holds kind-requires step-requires shuffled-requires sub-left loop-less
     loop-again fold-bench-requires returns)

@@ -9,8 +9,8 @@ Inv-loop area₀ seed calls reads live b₀ sum₀ word₀ left₀ area b sum wo
 abbrev μ-loop : tie.MeasureT-loop
 μ-loop area₀ seed calls reads live b₀ sum₀ word₀ left₀ area b sum word left = left
 
-power-on-requires : tie.Need-power-on-requires Inv-loop μ-loop
-power-on-requires c κs = search needs
+first-bench-requires : tie.Need-first-bench-requires Inv-loop μ-loop
+first-bench-requires c κs = search needs
 
 first-requires : tie.Need-first-requires Inv-loop μ-loop
 first-requires c κs = search needs
@@ -46,5 +46,5 @@ pub run-steps-spec : {M : Type 1} → statement M
 run-steps-spec =
     tie.close
     (tie.spec
-    Inv-loop μ-loop power-on-requires first-requires loop-holds bench-of-requires fold-bench-requires step-requires shuffled-requires sub-left
+    Inv-loop μ-loop first-bench-requires first-requires loop-holds bench-of-requires fold-bench-requires step-requires shuffled-requires sub-left
     loop-less loop-again returns)
