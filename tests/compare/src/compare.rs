@@ -76,13 +76,14 @@ pub fn same(one: &[u8], other: &[u8], number: usize) -> bool {
 }
 
 /// The first words of the answers that a drawing follows while the watch is on.
-const WATCHED: [&[u8]; 7] = [
+const WATCHED: [&[u8]; 8] = [
     b"event",
     b"turn",
     b"reading",
     b"send",
     b"refresh",
     b"power-on",
+    b"start",
     b"damage",
 ];
 
@@ -315,6 +316,11 @@ mod tests {
 
     #[test]
     fn both_programs_have_to_draw_while_the_watch_is_on() {
+        let started = "watch on\nstart 9\n";
+        let silent = "watch 0\nstart 10\n";
+        assert_eq!(line(started, silent, silent), Some(1));
+        let drawn = "watch 0\nstart 10\npanel\nend\n";
+        assert_eq!(difference(started, drawn, drawn), None);
         let watched = "watch on\npower-on\nsend 9\n";
         let silent = "watch 0\npower-on 0\nsend 2\n";
         assert_eq!(line(watched, silent, silent), Some(1));

@@ -2,6 +2,7 @@
 
 mod damage;
 mod frames;
+mod helped;
 mod independent;
 mod knobs;
 mod language;
@@ -11,6 +12,7 @@ mod readings;
 mod sets;
 mod sheet;
 mod shown;
+mod starts;
 mod wholes;
 mod words;
 
@@ -26,7 +28,7 @@ pub struct Part {
 const SAME: &str = "same answers";
 
 /// The drawings come last, so that all that two programs can differ in is seen before.
-pub const ALL: [Part; 11] = [
+pub const ALL: [Part; 12] = [
     Part {
         name: "bench sheet",
         found: SAME,
@@ -66,6 +68,11 @@ pub const ALL: [Part; 11] = [
         name: "whole readings",
         found: SAME,
         run: wholes::run,
+    },
+    Part {
+        name: "starts",
+        found: SAME,
+        run: starts::run,
     },
     Part {
         name: "random lists",

@@ -75,8 +75,9 @@ pub fn is_answered(line: &[u8]) -> bool {
     line.len() > LONGEST || !words(line).is_empty()
 }
 
-pub fn is_power_on(line: &[u8]) -> bool {
-    command(line) == [b"power-on"]
+/// Whether a line asks for a new bench, which nothing that went before shows in.
+pub fn is_new_bench(line: &[u8]) -> bool {
+    matches!(command(line)[..], [b"power-on"] | [b"start", _])
 }
 
 /// Whether a line asks for a new bus area, which nothing that went before shows in.
@@ -190,22 +191,33 @@ mod tests {
     }
 
     #[test]
-    fn power_on_is_told_from_what_looks_like_it() {
+    fn a_new_bench_is_told_from_what_looks_like_it() {
         for line in [
             "power-on\n",
             "power-on",
             "  power-on  # again\n",
             "power-on\r\n",
             "\tpower-on\t\n",
+            "start 90\n",
+            "\tstart\r-7 # 90",
         ] {
-            assert!(is_power_on(line.as_bytes()), "{line:?}");
+            assert!(is_new_bench(line.as_bytes()), "{line:?}");
         }
-        for line in ["power-on 0\n", "Power-on\n", "# power-on\n", "power\t-on\n"] {
-            assert!(!is_power_on(line.as_bytes()), "{line:?}");
+        for line in [
+            "power-on 0\n",
+            "Power-on\n",
+            "# power-on\n",
+            "power\t-on\n",
+            "start\n",
+            "start 90 91\n",
+            "Start 90\n",
+            "# start 90\n",
+        ] {
+            assert!(!is_new_bench(line.as_bytes()), "{line:?}");
         }
         let mut long = b"power-on #".to_vec();
         long.resize(256, b'x');
-        assert!(!is_power_on(&long));
+        assert!(!is_new_bench(&long));
     }
 
     #[test]

@@ -71,18 +71,18 @@ fn shortest_count(
     Some(high)
 }
 
-/// Where a shorter script might start, the latest first: at the last `power-on` ahead of the last
-/// line, at the last new area, or, because a `power-on` leaves the watch as it is, where the watch
+/// Where a shorter script might start, the latest first: at the last new bench ahead of the last
+/// line, at the last new area, or, because a new bench leaves the watch as it is, where the watch
 /// was last switched before it.
 fn late_starts(prefix: &[u8]) -> Vec<usize> {
     let lines = script::lines(prefix);
     let ends = line_ends(prefix);
     let earlier = &lines[..lines.len().saturating_sub(1)];
-    let power_on = earlier.iter().rposition(|line| script::is_power_on(line));
+    let bench = earlier.iter().rposition(|line| script::is_new_bench(line));
     let area = earlier.iter().rposition(|line| script::is_area(line));
     let switches = |line: &&[u8]| script::watch(line).is_some();
-    let watch = power_on.and_then(|end| earlier[..end].iter().rposition(switches));
-    let starts = [power_on, area, watch].into_iter().flatten();
+    let watch = bench.and_then(|end| earlier[..end].iter().rposition(switches));
+    let starts = [bench, area, watch].into_iter().flatten();
     let mut starts: Vec<usize> = starts.filter(|&index| index > 0).collect();
     starts.sort_unstable_by(|one, other| other.cmp(one));
     starts.into_iter().map(|index| ends[index]).collect()
@@ -128,6 +128,13 @@ mod tests {
         assert_eq!(found.0, "power-on # x\nbad\n");
         let found = cut(text, Some(4), |text| has(text, "b\n") && has(text, "bad"));
         assert_eq!(found.0, "a\npower-on\nb\npower-on # x\nbad\n");
+    }
+
+    #[test]
+    fn it_starts_at_the_last_start_too() {
+        let text = "a\npower-on\nb\nstart 401\nbad\nstart 60\nc\n";
+        let found = cut(text, Some(4), |text| has(text, "bad"));
+        assert_eq!(found.0, "start 401\nbad\n");
     }
 
     #[test]

@@ -1,4 +1,7 @@
-//! The bench value: what it holds, the ranges, and when it is sound.
+//! The bench value: what it holds, the ranges, how it starts, and when it is
+//! sound.
+
+use std::ops::RangeInclusive;
 
 use crate::float;
 use crate::sets::ModeSet;
@@ -15,6 +18,7 @@ pub enum Refusal {
     Place = 7,
     Mark = 8,
     Field = 9,
+    Speed = 10,
 }
 
 /// The kinds of readings, in the order in which a bench keeps them.
@@ -111,7 +115,12 @@ impl Reference {
 pub struct References([i32; 7]);
 
 impl References {
-    const POWER_ON: References = References([0, 0, 0, 0, 90, 0, 0]);
+    /// Those of a start with that IAS.
+    fn at_start(speed: i32) -> References {
+        let mut references = References([0; 7]);
+        references.put(Reference::Ias, speed);
+        references
+    }
 
     /// In the order in which they are shown.
     pub fn new(values: [i32; 7]) -> References {
@@ -153,11 +162,13 @@ pub struct Channel {
 }
 
 impl Channel {
-    const POWER_ON: Channel = Channel {
-        fd: false,
-        modes: ModeSet::OFF,
-        references: References::POWER_ON,
-    };
+    fn at_start(speed: i32) -> Channel {
+        Channel {
+            fd: false,
+            modes: ModeSet::OFF,
+            references: References::at_start(speed),
+        }
+    }
 
     fn is_sound(&self) -> bool {
         self.modes.is_coherent() && self.references.are_in_range()
@@ -183,8 +194,28 @@ pub struct Bench {
     pub inboxes: [Channel; 2],
 }
 
+/// The speeds that a start may name, and the one of a start that names none
+/// (document 02, 2026-06).
+const SPEEDS: RangeInclusive<i32> = 60..=400;
+const DEFAULT_SPEED: i32 = 120;
+
 impl Bench {
+    /// The default bench.
     pub fn power_on() -> Bench {
+        Bench::at_start(DEFAULT_SPEED)
+    }
+
+    /// A start takes no bench, so that nothing of an old one is left. Refused,
+    /// it still gives a bench: the default one.
+    pub fn start(speed: i32) -> (Bench, Result<(), Refusal>) {
+        if SPEEDS.contains(&speed) {
+            (Bench::at_start(speed), Ok(()))
+        } else {
+            (Bench::power_on(), Err(Refusal::Speed))
+        }
+    }
+
+    fn at_start(speed: i32) -> Bench {
         let mut bench = Bench {
             pf: 0,
             ap: false,
@@ -193,10 +224,10 @@ impl Bench {
             counts: [0; 4],
             readings: [0.0_f64.to_bits(); 6],
             wholes: [0; 6],
-            sides: [Channel::POWER_ON; 2],
-            inboxes: [Channel::POWER_ON; 2],
+            sides: [Channel::at_start(speed); 2],
+            inboxes: [Channel::at_start(speed); 2],
         };
-        bench.keep(Kind::Airspeed, 90.0_f64.to_bits(), 90);
+        bench.keep(Kind::Airspeed, f64::from(speed).to_bits(), speed);
         bench
     }
 

@@ -1,4 +1,4 @@
-//! Carries out a script from power-on, and writes its answers.
+//! Carries out a script from the default bench, and writes its answers.
 
 use std::io::{self, BufRead, Read, Write};
 
@@ -17,13 +17,13 @@ const OUTSIDE: Problem = "the bytes have to lie inside the area, whose length ar
 
 struct State {
     bench: Bench,
-    /// The bus area, which outlives a power-on.
+    /// The bus area, which outlives a power-on and a start.
     area: Vec<u8>,
     /// Whether a drawing follows what can change the bench.
     watch: bool,
 }
 
-/// Carries out the whole script from power-on.
+/// Carries out the whole script from the default bench.
 pub fn run(input: &mut impl BufRead, output: &mut impl Write) -> io::Result<()> {
     let mut state = State {
         bench: Bench::power_on(),
@@ -109,6 +109,7 @@ fn carry_out(state: &mut State, command: Command, output: &mut impl Write) -> io
             *bench = Bench::power_on();
             writeln!(output, "power-on 0")
         }
+        Command::Start(speed) => write_refusal("start", start(bench, speed), output),
         Command::Bench => write_bench(bench, output),
         Command::Panel => write_panel(output),
         Command::Watch(on) => {
@@ -122,6 +123,13 @@ fn carry_out(state: &mut State, command: Command, output: &mut impl Write) -> io
             writeln!(output, "damage 0")
         }
     }
+}
+
+/// The old bench goes, whatever it was and whether the start is refused or not.
+fn start(bench: &mut Bench, speed: i32) -> Result<(), Refusal> {
+    let (started, result) = Bench::start(speed);
+    *bench = started;
+    result
 }
 
 /// The refusal number, 0 for accepted, and the answer of a call.

@@ -21,6 +21,8 @@ pub enum Command {
     Display(u32),
     Pick(u32),
     PowerOn,
+    /// With the speed that it names, in range or not.
+    Start(i32),
     Bench,
     Panel,
     Watch(bool),
@@ -36,7 +38,7 @@ impl Command {
         match self {
             Command::Event(_) | Command::Turn(..) | Command::Knob(..) => true,
             Command::Reading(..) | Command::Send(_) | Command::Refresh(_) => true,
-            Command::PowerOn | Command::Damage(_) => true,
+            Command::PowerOn | Command::Start(_) | Command::Damage(_) => true,
             Command::Display(_) | Command::Pick(_) | Command::Bench => false,
             Command::Panel | Command::Watch(_) | Command::Help => false,
             Command::Bus(_) => false,
@@ -68,7 +70,8 @@ pub enum Damage {
 pub type Problem = &'static str;
 
 const NAME: Problem = "a command is event, press, signal, turn, knob, reading, send, refresh, \
-    display, pick, power-on, bench, panel, damage, watch, help, area, poke, write, read or bytes";
+    display, pick, power-on, start, bench, panel, damage, watch, help, area, poke, write, read or \
+    bytes";
 const ALONE: Problem = "this command is one word alone";
 const EVENT: Problem = "event takes one number from 0 to 4294967295";
 const PRESS: Problem = "press takes one switch: ap-disconnect, ap, go-around, transfer, fd-left, \
@@ -88,6 +91,7 @@ const READING: Problem = "a reading has a kind and a value";
 const KIND: Problem = "a kind is altitude, airspeed, vertical-speed, roll, pitch or heading";
 const VALUE: Problem = "a value is a decimal number with at most 15 significant digits and at \
     most 15 after the point, or 0x and 16 hexadecimal digits, or nan, inf or -inf";
+const SPEED: Problem = "start takes one speed, a number from -2147483648 to 2147483647";
 const WATCH: Problem = "watch takes on or off";
 const DAMAGE: Problem = "damage takes pf, independent, reading, whole, left, right, left-inbox or \
     right-inbox first";
@@ -108,7 +112,7 @@ const START: Problem = "here goes one start, a number from 0 to 1844674407370955
 const BYTES: Problem = "bytes are pairs of hexadecimal digits without anything between";
 
 /// The commands, for people who ask for help.
-pub const FORMS: [&str; 26] = [
+pub const FORMS: [&str; 27] = [
     "event WORD",
     "press SWITCH",
     "signal SIGNAL",
@@ -120,6 +124,7 @@ pub const FORMS: [&str; 26] = [
     "display SIDE",
     "pick SIDE",
     "power-on",
+    "start SPEED",
     "bench",
     "panel",
     "damage pf N",
@@ -181,6 +186,7 @@ fn command(name: &[u8], arguments: &[&[u8]]) -> Result<Command, Problem> {
         b"display" => one(arguments, side, SIDE).map(Command::Display),
         b"pick" => one(arguments, side, SIDE).map(Command::Pick),
         b"power-on" => alone(arguments, Command::PowerOn),
+        b"start" => one(arguments, signed, SPEED).map(Command::Start),
         b"bench" => alone(arguments, Command::Bench),
         b"panel" => alone(arguments, Command::Panel),
         b"watch" => one(arguments, names::on_or_off, WATCH).map(Command::Watch),
@@ -716,6 +722,8 @@ mod tests {
             "send 2",
             "refresh left",
             "power-on",
+            "start 60",
+            "start 401",
             "damage pf 0",
             "damage independent 0",
             "damage whole roll 0",
@@ -891,6 +899,76 @@ mod tests {
         ] {
             assert!(parse(line.as_bytes()).is_err(), "{line}");
         }
+    }
+
+    #[test]
+    fn a_start_names_any_signed_number() {
+        for (words, speed) in [
+            ("60", 60),
+            ("060", 60),
+            ("00000000000000000000000000000000400", 400),
+            ("59", 59),
+            ("0", 0),
+            ("-0", 0),
+            ("-060", -60),
+            ("2147483647", i32::MAX),
+            ("-2147483648", i32::MIN),
+        ] {
+            let line = format!("start {words}");
+            let spaced = format!("\tstart\r {words}#61");
+            assert_same(&[&line, &spaced], Command::Start(speed));
+        }
+    }
+
+    #[test]
+    fn lines_that_are_no_start() {
+        for line in [
+            "start",
+            "starts 60",
+            "Start 60",
+            "START 60",
+            "start60",
+            "start-60",
+            "start 60 61",
+            "start 60 x",
+            "start 60 60",
+            "start +60",
+            "start --60",
+            "start -",
+            "start 60.0",
+            "start 60.",
+            "start 6e1",
+            "start 0x78",
+            "start 0x405e000000000000",
+            "start nan",
+            "start inf",
+            "start x",
+            "start speed 60",
+            "start 60 speed",
+            "start left",
+            "start default",
+            "start power-on",
+            "start 2147483648",
+            "start -2147483649",
+            "start 4294967416",
+            "start 18446744073709551736",
+            "start # 60",
+            "power-on 60",
+            "power-on start 60",
+        ] {
+            assert!(parse(line.as_bytes()).is_err(), "{line}");
+        }
+    }
+
+    #[test]
+    fn a_wrong_start_is_told_which_numbers_are_accepted() {
+        for line in ["start", "start x", "start 60 61", "start 2147483648"] {
+            let problem = parse(line.as_bytes()).unwrap_err();
+            assert!(problem.contains("one speed"), "{line}: {problem}");
+            assert!(problem.contains("-2147483648 to 2147483647"), "{line}");
+        }
+        assert_eq!(parse(b"star 60"), Err(NAME));
+        assert!(NAME.contains("start"));
     }
 
     #[test]

@@ -7,6 +7,7 @@ mod refusals;
 mod rules;
 mod scripts;
 mod sheet;
+mod starts;
 mod walk;
 mod wholes;
 mod words;

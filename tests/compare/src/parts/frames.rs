@@ -10,8 +10,8 @@ mod places;
 mod uses;
 mod worked;
 
-use super::sheet;
 use super::words::Set;
+use super::{helped, sheet};
 use crate::compare;
 use crate::gate::{Gate, Stop};
 use crate::rng::Rng;
@@ -32,7 +32,7 @@ pub fn run(gate: &mut Gate) -> Result<(), Stop> {
     for script in scripts(gate.seed, &coherent) {
         gate.check(&script)?;
     }
-    helped(gate)
+    helped::run(gate, &COMMANDS)
 }
 
 fn scripts(seed: u64, coherent: &[Set]) -> Vec<Script> {
@@ -60,28 +60,6 @@ fn scripts(seed: u64, coherent: &[Set]) -> Vec<Script> {
     ]
 }
 
-/// What help says is free, but both programs have to name the commands in it.
-fn helped(gate: &mut Gate) -> Result<(), Stop> {
-    let mut script = Script::default();
-    script.line("help");
-    for output in [gate.check(&script)?, gate.ask_console(&script)?] {
-        if let Some(name) = missing(&output) {
-            return Err(gate.reject(&format!("no line of the help begins with {name}")));
-        }
-    }
-    Ok(())
-}
-
-/// A command that begins no line of a help.
-fn missing(output: &[u8]) -> Option<&'static str> {
-    let text = String::from_utf8_lossy(output);
-    let named = |name: &str| {
-        let mut lines = text.lines();
-        lines.any(|line| line.split_whitespace().next() == Some(name))
-    };
-    COMMANDS.into_iter().find(|name| !named(name))
-}
-
 /// The answers to the lines of a script, of which each has one line.
 fn answers(output: &[u8]) -> Vec<String> {
     let blocks = compare::blocks(output).into_iter();
@@ -97,19 +75,6 @@ mod tests {
     fn the_part_is_neither_small_nor_large() {
         let commands: usize = scripts(1, &[Set::OFF]).iter().map(Script::commands).sum();
         assert!((30_000..=80_000).contains(&commands), "{commands}");
-    }
-
-    #[test]
-    fn a_help_without_one_of_the_commands_is_noticed() {
-        let all = "help\nevent WORD\narea LENGTH\npoke START HEX\n  write SIDE START\n\
-            read START\nbytes\nend\n";
-        assert_eq!(missing(all.as_bytes()), None);
-        for name in COMMANDS {
-            let cut = all.replace(name, "other");
-            assert_eq!(missing(cut.as_bytes()), Some(name));
-        }
-        let hidden = all.replace("read START", "event read");
-        assert_eq!(missing(hidden.as_bytes()), Some("read"));
     }
 
     #[test]

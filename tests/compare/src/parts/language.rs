@@ -71,7 +71,7 @@ fn whole_scripts() -> Vec<Script> {
     scripts
 }
 
-const ENDS: [&[u8]; 36] = [
+const ENDS: [&[u8]; 40] = [
     b"",
     b"\n",
     b"\n\n\n",
@@ -104,6 +104,10 @@ const ENDS: [&[u8]; 36] = [
     b"watch on\npanel\nhelp\nevent 1\npanel",
     b"watch on\npower-on\nx\n\nevent 1\nwatch off\nevent 1",
     b"send left\nwatch off\nsend 2",
+    b"start 90",
+    b"start 90\nbench",
+    b"start 401\nbench",
+    b"watch on\nstart 60\nstart 59\nstart\nbench",
     b"bytes",
     b"area 3\nbytes",
     b"area 19\nwrite 0 0\nread 0",
@@ -130,7 +134,7 @@ fn as_script(text: &[u8]) -> Script {
 fn with_every_byte() -> Vec<Vec<u8>> {
     let mut lines = Vec::new();
     for byte in (0..=u8::MAX).filter(|&byte| byte != b'\n') {
-        let forms: [(&[u8], &[u8]); 12] = [
+        let forms: [(&[u8], &[u8]); 14] = [
             (b"", b""),
             (b"", b"event 64"),
             (b"event", b"64"),
@@ -143,6 +147,8 @@ fn with_every_byte() -> Vec<Vec<u8>> {
             (b"pre", b"ss fd-left"),
             (b"press fd", b"left"),
             (b"knob wheel ", b"7"),
+            (b"start", b"90"),
+            (b"start 9", b""),
         ];
         lines.extend(forms.map(|(before, after)| [before, &[byte], after].concat()));
     }
@@ -153,7 +159,7 @@ fn with_every_byte() -> Vec<Vec<u8>> {
 /// that cuts lines into pieces would find it.
 fn of_length(length: usize) -> Vec<Vec<u8>> {
     let event = b"event 64".as_slice();
-    let forms: [(&[u8], u8, &[u8]); 19] = [
+    let forms: [(&[u8], u8, &[u8]); 20] = [
         (b"", b' ', b""),
         (b"#", b'x', b""),
         (b"", b'x', b""),
@@ -173,6 +179,7 @@ fn of_length(length: usize) -> Vec<Vec<u8>> {
         (event, b' ', b"\r"),
         (b"knob 0 -", b'0', b"7"),
         (b"watch off", b'\r', b""),
+        (b"start ", b'0', b"90"),
     ];
     let filled = |(start, filler, end): (&[u8], u8, &[u8])| {
         let middle = vec![filler; length - start.len() - end.len()];
@@ -265,7 +272,7 @@ mod tests {
     #[test]
     fn every_byte_but_the_newline_stands_at_every_place() {
         let lines = with_every_byte();
-        assert_eq!(lines.len(), 255 * 12);
+        assert_eq!(lines.len(), 255 * 14);
         assert!(!lines.concat().contains(&b'\n'));
         for line in [
             b"event\t64".as_slice(),
@@ -287,7 +294,7 @@ mod tests {
             assert_eq!(as_script(text).text(), text);
         }
         let scripts = whole_scripts();
-        assert_eq!(scripts.len(), ENDS.len() + LENGTHS.len() * 19);
+        assert_eq!(scripts.len(), ENDS.len() + LENGTHS.len() * 20);
         assert!(scripts[0].text().is_empty());
         let open = scripts
             .iter()

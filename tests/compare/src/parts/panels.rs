@@ -10,10 +10,10 @@ use super::random;
 use super::words::{self, Set, KINDS, REFERENCES, SIDES};
 use crate::compare;
 use crate::gate::{Gate, Stop};
-use crate::script::Script;
+use crate::script::{is_new_bench, Script};
 
-/// Commands, of which the last is watched. Where the first is no `power-on`, the bench is the one
-/// that the state before has left.
+/// Commands, of which the last is watched. Where the first asks for no new bench, the bench is the
+/// one that the state before has left.
 type State = Vec<String>;
 
 /// What every state is asked for, the watched command first.
@@ -118,9 +118,9 @@ fn check_state(answers: &[&[u8]], seen: &mut Seen) -> Result<(), String> {
     Ok(())
 }
 
-/// The problem, the commands since the last power-on, and the answers to the last state.
+/// The problem, the commands since the last new bench, and the answers to the last state.
 fn told(problem: &str, states: &[State], answers: &[&[u8]]) -> String {
-    let fresh = |state: &State| state[0] == "power-on";
+    let fresh = |state: &State| is_new_bench(state[0].as_bytes());
     let start = states.iter().rposition(fresh).unwrap_or(0);
     let commands = states[start..].concat().join("\n");
     let answers = answers.concat();
@@ -348,7 +348,7 @@ fn damaged() -> Vec<State> {
 }
 
 /// Every command that is watched, accepted and refused, on one bench after the other.
-const WALK: [&str; 81] = [
+const WALK: [&str; 86] = [
     "power-on",
     "press hdg",
     "knob heading 120",
@@ -429,6 +429,11 @@ const WALK: [&str; 81] = [
     "press flc",
     "knob speed 127",
     "press ap-disconnect",
+    "start 400",
+    "press flc",
+    "start 401",
+    "damage pf 2",
+    "start 60",
     "power-on",
 ];
 
@@ -576,7 +581,7 @@ mod tests {
             .collect();
         let watched = [
             "event", "press", "signal", "turn", "knob", "reading", "send", "refresh", "power-on",
-            "damage",
+            "damage", "start",
         ];
         assert_eq!(last, BTreeSet::from(watched));
     }

@@ -106,18 +106,22 @@ fn collect_shown(output: &[u8], shown: &mut BTreeSet<Vec<u8>>) {
 }
 
 /// A list of that many commands from power-on. Every second list is calm: it has neither damage
-/// nor errors, and so no `power-on` that would take it back to the start.
+/// nor errors, and so no `power-on` that would take it back to the start. Every second calm list
+/// begins with a start of its own.
 pub fn list(seed: u64, number: u64, length: usize) -> Script {
     let mut maker = Maker {
         rng: Rng::of_list(seed, number),
         counts: [0; 4],
         bus: Bus::default(),
         calm: number.is_multiple_of(2),
-        until_power_on: None,
+        until_new_bench: None,
         next: None,
         planned: VecDeque::new(),
     };
     let mut script = Script::default();
+    if number % 4 == 2 {
+        script.line(maker.start());
+    }
     while script.commands() < length {
         script.line(maker.line());
     }
@@ -128,11 +132,11 @@ struct Maker {
     rng: Rng,
     /// The last counts given, so that most turns are small.
     counts: [u8; 4],
-    /// The bus area, which a power-on leaves as it is.
+    /// The bus area, which a new bench leaves as it is.
     bus: Bus,
     calm: bool,
-    /// After a damage, how many calls come ahead of the next power-on.
-    until_power_on: Option<usize>,
+    /// After a damage, how many calls come ahead of the next new bench.
+    until_new_bench: Option<usize>,
     /// A damage that belongs to the one before it.
     next: Option<String>,
     /// What is left of a sequence that was begun.
@@ -164,6 +168,9 @@ const PLANNED: usize = 97;
 
 /// How many of a hundred damaged readings get their whole value too.
 const WITH_WHOLE: usize = 80;
+
+/// How many of a hundred new benches are started with a speed.
+const STARTED: usize = 50;
 
 /// How many of a hundred events, knobs and sides are named where they can be.
 const NAMED: usize = 40;
@@ -200,14 +207,14 @@ const ROUGH: [(usize, Make); 5] = [
     (8, |maker| maker.rng.pick(&ERRORS).to_string()),
     (2, |_| "panel".to_string()),
     (1, |_| "help".to_string()),
-    (1, Maker::power_on),
+    (1, Maker::new_bench),
 ];
 
 impl Maker {
     fn line(&mut self) -> String {
-        match self.until_power_on {
-            Some(0) => return self.power_on(),
-            Some(calls) => self.until_power_on = Some(calls - 1),
+        match self.until_new_bench {
+            Some(0) => return self.new_bench(),
+            Some(calls) => self.until_new_bench = Some(calls - 1),
             None => {}
         }
         if let Some(line) = self.next.take() {
@@ -237,11 +244,31 @@ impl Maker {
         }
     }
 
-    fn power_on(&mut self) -> String {
-        self.until_power_on = None;
+    fn new_bench(&mut self) -> String {
+        if self.rng.percent(STARTED) {
+            return self.start();
+        }
+        self.forget();
+        "power-on".to_string()
+    }
+
+    /// Mostly with a speed that is accepted, and often with one at an end of those.
+    fn start(&mut self) -> String {
+        self.forget();
+        let speed = match self.rng.below(10) {
+            0..=5 => self.rng.between(60, 400),
+            6..=7 => self.rng.pick(&[58, 59, 60, 61, 399, 400, 401, 402]),
+            8 => self.rng.between(-600, 1_000),
+            _ => i64::from(self.rng.next() as i32),
+        };
+        format!("start {speed}")
+    }
+
+    /// Nothing is left of the bench that the list has made so far.
+    fn forget(&mut self) {
+        self.until_new_bench = None;
         self.next = None;
         self.counts = [0; 4];
-        "power-on".to_string()
     }
 
     fn event(&mut self) -> String {
@@ -327,7 +354,7 @@ impl Maker {
 
     fn damage(&mut self) -> String {
         // Room for the damage that belongs to this one and for a call after both.
-        self.until_power_on.get_or_insert(2 + self.rng.below(7));
+        self.until_new_bench.get_or_insert(2 + self.rng.below(7));
         let place = self.rng.pick(&BOXES);
         match self.rng.below(11) {
             0 => format!("damage pf {}", self.rng.pick(&[0, 1, 1, 2, 255])),
@@ -384,7 +411,7 @@ impl Maker {
 }
 
 /// Each is answered by an error.
-const ERRORS: [&str; 39] = [
+const ERRORS: [&str; 43] = [
     "event",
     "event x",
     "event 4294967296",
@@ -406,6 +433,10 @@ const ERRORS: [&str; 39] = [
     "refresh -1",
     "Display 0",
     "power-on 1",
+    "start",
+    "start x",
+    "start 60.0",
+    "start 2147483648",
     "damage left set 6 0 1 0",
     "damage independent 2",
     "damage left ias 2147483648",
@@ -471,7 +502,7 @@ mod tests {
     #[test]
     fn only_rough_lists_have_damage_and_errors() {
         let (calm, rough) = (list(1, 0, 20_000), list(1, 1, 20_000));
-        for name in ["damage", "power-on", "panel", "help", "Display"] {
+        for name in ["damage", "power-on", "start", "panel", "help", "Display"] {
             assert_eq!(counts(&calm).get(name), None, "{name}");
             assert!(counts(&rough).contains_key(name), "{name}");
         }
@@ -527,15 +558,46 @@ mod tests {
     }
 
     #[test]
-    fn after_a_damage_the_power_comes_on_again_soon() {
+    fn every_second_calm_list_begins_with_a_start() {
+        for number in 0..8 {
+            let script = list(1, number, 1_000);
+            let first = text(&script).lines().next().unwrap();
+            assert_eq!(first.starts_with("start "), number % 4 == 2, "{first}");
+            let starts = counts(&script).get("start").copied().unwrap_or(0);
+            assert!(number % 2 == 1 || starts == usize::from(number == 2 || number == 6));
+        }
+    }
+
+    #[test]
+    fn starts_are_accepted_and_refused_and_power_ons_stay() {
+        let script = list(1, 1, 300_000);
+        let lines: Vec<&str> = text(&script).lines().collect();
+        let given: Vec<i64> = lines
+            .iter()
+            .filter_map(|line| line.strip_prefix("start ")?.parse().ok())
+            .filter(|&speed| i32::try_from(speed).is_ok())
+            .collect();
+        let good = given.iter().filter(|speed| (60..=400).contains(*speed));
+        let good = good.count();
+        assert!(good > 200 && given.len() - good > 100, "{good}");
+        for speed in [58, 59, 60, 61, 399, 400, 401, 402] {
+            assert!(given.contains(&speed), "{speed}");
+        }
+        let power_ons = lines.iter().filter(|&&line| line == "power-on").count();
+        assert!(power_ons > 200, "{power_ons}");
+    }
+
+    #[test]
+    fn after_a_damage_a_new_bench_comes_soon() {
         let script = list(1, 1, 50_000);
         let mut since = None;
         let mut damages = 0;
         for line in text(&script).lines() {
+            let errs = ERRORS.contains(&line);
             since = match (since, line.split(' ').next()) {
-                (_, Some("power-on")) if line == "power-on" => None,
+                (_, Some("power-on" | "start")) if !errs => None,
                 (Some(calls), _) => Some(calls + 1),
-                (None, Some("damage")) if !ERRORS.contains(&line) => {
+                (None, Some("damage")) if !errs => {
                     damages += 1;
                     Some(0)
                 }
@@ -642,9 +704,9 @@ mod tests {
     #[test]
     fn shown_sets_are_collected_from_accepted_displays() {
         let mut shown = BTreeSet::new();
-        let output = b"display 0 1 2 1 4 0 0 0 0 90 0 0 129\nevent 0 3 1 2\n\
-            display 0 0 2 1 4 7 7 7 7 90 0 0 129\ndisplay 2 0 0 0 0 0 0 0 0 0 0 0 0\n\
-            display 0 1 0 0 0 0 0 0 0 90 0 0 128\ndisplay 0 1 4 7 0 0 0 0 0 90 0 0 128\n";
+        let output = b"display 0 1 2 1 4 0 0 0 0 120 0 0 129\nevent 0 3 1 2\n\
+            display 0 0 2 1 4 7 7 7 7 120 0 0 129\ndisplay 2 0 0 0 0 0 0 0 0 0 0 0 0\n\
+            display 0 1 0 0 0 0 0 0 0 120 0 0 128\ndisplay 0 1 4 7 0 0 0 0 0 120 0 0 128\n";
         collect_shown(output, &mut shown);
         let expected = [b"2 1 4".to_vec(), b"4 7 0".to_vec()];
         assert_eq!(shown, BTreeSet::from(expected));

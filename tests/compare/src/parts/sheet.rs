@@ -1,4 +1,4 @@
-//! The bench sheet of document 01 as the requests up to 2026-05 left it: each case as a script from
+//! The bench sheet of document 01 as the requests up to 2026-06 left it: each case as a script from
 //! power-on, with the answers that the paper gives. A display also has what the paper says of
 //! power-on, references and lamps.
 
@@ -17,14 +17,37 @@ pub fn run(gate: &mut Gate) -> Result<(), Stop> {
 }
 
 pub fn texts(case: Case) -> (Script, String) {
-    let mut script = Script::default();
-    let mut paper = String::new();
-    for (command, answer) in case {
-        script.line(command);
-        paper.push_str(answer);
-        paper.push('\n');
+    let mut told = Told::default();
+    told.case(case);
+    (told.script, told.paper)
+}
+
+/// A script together with the answers that the papers give.
+#[derive(Default)]
+pub struct Told {
+    pub script: Script,
+    pub paper: String,
+}
+
+impl Told {
+    pub fn say(&mut self, command: &str, answer: &str) {
+        self.script.line(command);
+        self.paper.push_str(answer);
+        self.paper.push('\n');
     }
-    (script, paper)
+
+    pub fn case(&mut self, case: Case) {
+        for (command, answer) in case {
+            self.say(command, answer);
+        }
+    }
+
+    /// A line that is an error. Every line so far has to have an answer, as its number is counted
+    /// from them; the text of the error is free.
+    pub fn error(&mut self, line: &str) {
+        let number = self.script.commands() + 1;
+        self.say(line, &format!("error {number}: x"));
+    }
 }
 
 const CASES: [Case; 12] = [
@@ -37,25 +60,25 @@ const CASES: [Case; 12] = [
 const CASE_1: Case = &[
     ("reading roll 12.5", "reading 0"),
     ("event 64", "event 0 6"),
-    ("display 0", "display 0 1 1 1 4 0 0 0 0 90 12 0 128"),
+    ("display 0", "display 0 1 1 1 4 0 0 0 0 120 12 0 128"),
     ("reading roll 13.5", "reading 0"),
     ("event 64", "event 0 6"),
-    ("display 0", "display 0 0 0 0 0 0 0 0 0 90 12 0 128"),
+    ("display 0", "display 0 0 0 0 0 0 0 0 0 120 12 0 128"),
     ("event 64", "event 0 6"),
-    ("display 0", "display 0 1 1 1 4 0 0 0 0 90 14 0 128"),
+    ("display 0", "display 0 1 1 1 4 0 0 0 0 120 14 0 128"),
     ("reading roll -0.5", "reading 0"),
     ("event 64", "event 0 6"),
     ("event 64", "event 0 6"),
-    ("display 0", "display 0 1 1 1 4 0 0 0 0 90 0 0 128"),
+    ("display 0", "display 0 1 1 1 4 0 0 0 0 120 0 0 128"),
     ("reading altitude 12.5", "reading 0"),
     ("event 524288", "event 0 19"),
-    ("display 0", "display 0 1 1 4 0 0 0 12 0 90 0 0 160"),
+    ("display 0", "display 0 1 1 4 0 0 0 12 0 120 0 0 160"),
     ("reading vertical-speed 13.5", "reading 0"),
     ("event 131072", "event 0 17"),
-    ("display 0", "display 0 1 1 2 4 0 0 12 14 90 0 0 136"),
+    ("display 0", "display 0 1 1 2 4 0 0 12 14 120 0 0 136"),
     ("reading altitude -0.5", "reading 0"),
     ("event 524288", "event 0 19"),
-    ("display 0", "display 0 1 1 4 0 0 0 0 14 90 0 0 160"),
+    ("display 0", "display 0 1 1 4 0 0 0 0 14 120 0 0 160"),
 ];
 
 /// North by its second number is accepted; the refused headings leave it in the bench as it came,
@@ -67,105 +90,105 @@ const CASE_2: Case = &[
     ("reading heading -0.75", "reading 6"),
     (
         "bench",
-        "bench 0 0 0 0 0 0 0 0 0x0000000000000000 0x4056800000000000 0x0000000000000000 \
-         0x0000000000000000 0x0000000000000000 0x4076780000000000 0 90 0 0 0 0 \
-         0 0 0 0 0 0 0 0 0 90 0 0 0 0 0 0 0 0 0 0 0 90 0 0 \
-         0 0 0 0 0 0 0 0 0 90 0 0 0 0 0 0 0 0 0 0 0 90 0 0",
+        "bench 0 0 0 0 0 0 0 0 0x0000000000000000 0x405e000000000000 0x0000000000000000 \
+         0x0000000000000000 0x0000000000000000 0x4076780000000000 0 120 0 0 0 0 \
+         0 0 0 0 0 0 0 0 0 120 0 0 0 0 0 0 0 0 0 0 0 120 0 0 \
+         0 0 0 0 0 0 0 0 0 120 0 0 0 0 0 0 0 0 0 0 0 120 0 0",
     ),
 ];
 
 const CASE_3: Case = &[
     ("reading altitude 56000.5", "reading 0"),
     ("event 524288", "event 0 19"),
-    ("display 0", "display 0 1 1 4 0 0 0 56000 0 90 0 0 160"),
+    ("display 0", "display 0 1 1 4 0 0 0 56000 0 120 0 0 160"),
     ("reading altitude 56001", "reading 6"),
 ];
 
 /// Rotations, as the heading and the preselected altitude (100 feet a count) show them.
 const CASE_4: Case = &[
     ("turn 3 250", "turn 0"),
-    ("display 0", "display 0 0 0 0 0 354 0 0 0 90 0 0 128"),
+    ("display 0", "display 0 0 0 0 0 354 0 0 0 120 0 0 128"),
     ("turn 3 3", "turn 0"),
-    ("display 0", "display 0 0 0 0 0 3 0 0 0 90 0 0 128"),
+    ("display 0", "display 0 0 0 0 0 3 0 0 0 120 0 0 128"),
     ("turn 3 250", "turn 0"),
-    ("display 0", "display 0 0 0 0 0 354 0 0 0 90 0 0 128"),
+    ("display 0", "display 0 0 0 0 0 354 0 0 0 120 0 0 128"),
     ("turn 1 250", "turn 0"),
-    ("display 0", "display 0 0 0 0 0 354 -600 0 0 90 0 0 128"),
+    ("display 0", "display 0 0 0 0 0 354 -600 0 0 120 0 0 128"),
     ("turn 1 3", "turn 0"),
-    ("display 0", "display 0 0 0 0 0 354 300 0 0 90 0 0 128"),
+    ("display 0", "display 0 0 0 0 0 354 300 0 0 120 0 0 128"),
     ("turn 1 250", "turn 0"),
-    ("display 0", "display 0 0 0 0 0 354 -600 0 0 90 0 0 128"),
+    ("display 0", "display 0 0 0 0 0 354 -600 0 0 120 0 0 128"),
     ("power-on", "power-on 0"),
     ("turn 3 128", "turn 0"),
-    ("display 0", "display 0 0 0 0 0 232 0 0 0 90 0 0 128"),
+    ("display 0", "display 0 0 0 0 0 232 0 0 0 120 0 0 128"),
     ("turn 3 0", "turn 0"),
-    ("display 0", "display 0 0 0 0 0 104 0 0 0 90 0 0 128"),
+    ("display 0", "display 0 0 0 0 0 104 0 0 0 120 0 0 128"),
     ("turn 1 100", "turn 0"),
     ("turn 1 200", "turn 0"),
     ("turn 1 0", "turn 0"),
-    ("display 0", "display 0 0 0 0 0 104 25600 0 0 90 0 0 128"),
+    ("display 0", "display 0 0 0 0 0 104 25600 0 0 120 0 0 128"),
     ("turn 1 128", "turn 0"),
-    ("display 0", "display 0 0 0 0 0 104 12800 0 0 90 0 0 128"),
+    ("display 0", "display 0 0 0 0 0 104 12800 0 0 120 0 0 128"),
     ("turn 1 0", "turn 0"),
-    ("display 0", "display 0 0 0 0 0 104 0 0 0 90 0 0 128"),
+    ("display 0", "display 0 0 0 0 0 104 0 0 0 120 0 0 128"),
 ];
 
 const CASE_5: Case = &[
     ("turn 3 251", "turn 0"),
-    ("display 0", "display 0 0 0 0 0 355 0 0 0 90 0 0 128"),
+    ("display 0", "display 0 0 0 0 0 355 0 0 0 120 0 0 128"),
     ("turn 3 4", "turn 0"),
-    ("display 0", "display 0 0 0 0 0 4 0 0 0 90 0 0 128"),
+    ("display 0", "display 0 0 0 0 0 4 0 0 0 120 0 0 128"),
     ("reading vertical-speed 48", "reading 0"),
     ("event 131072", "event 0 17"),
-    ("display 0", "display 0 1 1 2 4 4 0 0 48 90 0 0 136"),
+    ("display 0", "display 0 1 1 2 4 4 0 0 48 120 0 0 136"),
     ("turn 0 9", "turn 0"),
-    ("display 0", "display 0 1 1 2 4 4 0 0 50 90 0 0 136"),
+    ("display 0", "display 0 1 1 2 4 4 0 0 50 120 0 0 136"),
 ];
 
 const CASE_6: Case = &[
     ("event 16384", "event 0 14"),
-    ("display 0", "display 0 1 2 1 4 0 0 0 0 90 0 0 129"),
+    ("display 0", "display 0 1 2 1 4 0 0 0 0 120 0 0 129"),
     ("pick 0", "pick 0 2 1"),
 ];
 
 const CASE_7: Case = &[
     ("event 16400", "event 0 4"),
-    ("display 0", "display 0 1 5 8 4 0 0 0 0 90 0 0 128"),
+    ("display 0", "display 0 1 5 8 4 0 0 0 0 120 0 0 128"),
     ("pick 0", "pick 0 5 8"),
 ];
 
 const CASE_8: Case = &[
     ("event 65536", "event 0 16"),
-    ("display 0", "display 0 1 1 1 14 0 0 0 0 90 0 0 132"),
+    ("display 0", "display 0 1 1 1 14 0 0 0 0 120 0 0 132"),
     ("event 1024", "event 0 10"),
-    ("display 0", "display 0 1 4 1 12 0 0 0 0 90 0 0 132"),
+    ("display 0", "display 0 1 4 1 12 0 0 0 0 120 0 0 132"),
     ("event 2048", "event 0 11"),
-    ("display 0", "display 0 1 4 7 0 0 0 0 0 90 0 0 132"),
+    ("display 0", "display 0 1 4 7 0 0 0 0 0 120 0 0 132"),
     ("event 131072", "event 0 17"),
-    ("display 0", "display 0 1 4 2 4 0 0 0 0 90 0 0 140"),
+    ("display 0", "display 0 1 4 2 4 0 0 0 0 120 0 0 140"),
 ];
 
 const CASE_9: Case = &[
     ("event 65536", "event 0 16"),
     ("event 1024", "event 0 10"),
     ("event 4", "event 0 2"),
-    ("display 0", "display 0 1 4 3 12 0 0 0 0 90 0 0 148"),
+    ("display 0", "display 0 1 4 3 12 0 0 0 0 120 0 0 148"),
     ("event 2048", "event 0 11"),
-    ("display 0", "display 0 1 4 3 12 0 0 0 0 90 0 0 148"),
+    ("display 0", "display 0 1 4 3 12 0 0 0 0 120 0 0 148"),
 ];
 
 const CASE_10: Case = &[
     ("event 0", "event 0 32"),
     ("event 2097152", "event 4 32"),
-    ("display 0", "display 0 0 0 0 0 0 0 0 0 90 0 0 128"),
+    ("display 0", "display 0 0 0 0 0 0 0 0 0 120 0 0 128"),
 ];
 
 const CASE_11: Case = &[
     ("event 16384", "event 0 14"),
-    ("display 1", "display 0 0 0 0 0 0 0 0 0 90 0 0 128"),
+    ("display 1", "display 0 0 0 0 0 0 0 0 0 120 0 0 128"),
     ("send 0", "send 0"),
     ("refresh 1", "refresh 0"),
-    ("display 1", "display 0 0 2 1 4 0 0 0 0 90 0 0 129"),
+    ("display 1", "display 0 0 2 1 4 0 0 0 0 120 0 0 129"),
 ];
 
 /// Right is On after the transfer because its inbox says that left's flight director is On.
@@ -174,10 +197,10 @@ const CASE_12: Case = &[
     ("send 0", "send 0"),
     ("refresh 1", "refresh 0"),
     ("event 32", "event 0 5"),
-    ("display 1", "display 0 0 1 1 4 0 0 0 0 90 0 0 256"),
-    ("display 0", "display 0 1 2 1 4 0 0 0 0 90 0 0 257"),
+    ("display 1", "display 0 0 1 1 4 0 0 0 0 120 0 0 256"),
+    ("display 0", "display 0 1 2 1 4 0 0 0 0 120 0 0 257"),
     ("refresh 0", "refresh 0"),
-    ("display 0", "display 0 1 0 0 0 0 0 0 0 90 0 0 256"),
+    ("display 0", "display 0 1 0 0 0 0 0 0 0 120 0 0 256"),
     ("pick 0", "pick 0 0 0"),
 ];
 

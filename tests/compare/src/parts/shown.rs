@@ -69,14 +69,14 @@ pub mod tests {
         let bit = u8::from;
         let flags = [shown.ap, shown.overspeed, shown.independent].map(bit);
         let [ap, overspeed, independent] = flags;
-        let references = "0 0 0 0 90 0 0";
+        let references = "0 0 0 0 120 0 0";
         let side = |index: usize| {
             let (fd, set) = (bit(fd[index]), shown.sets[index]);
             format!("{fd} {set} {references}")
         };
         let held = |index: usize| format!("{} {} {references}", bit(inbox[index]), Set::OFF);
         format!(
-            "bench {pf} {ap} {overspeed} {independent} 0 0 0 0 a b c d e nan 0 90 0 0 0 0 \
+            "bench {pf} {ap} {overspeed} {independent} 0 0 0 0 a b c d e nan 0 120 0 0 0 0 \
              {} {} {} {}\n",
             side(0),
             side(1),
@@ -119,7 +119,7 @@ pub mod tests {
             good.replacen("bench 1 0 1 0", "bench 1 0 1", 1),
             good.replacen("bench 1 0 1 0", "bench 1 0 1 2", 1),
             good.replacen("bench 1", "bench 256", 1),
-            good.replacen("nan 0 90 0 0 0 0", "nan", 1),
+            good.replacen("nan 0 120 0 0 0 0", "nan", 1),
             good.replacen("2 0 1 0", "2 0 x 0", 1),
         ] {
             assert_ne!(bad, good);

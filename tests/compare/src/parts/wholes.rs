@@ -102,24 +102,24 @@ mod tests {
         asked.answered("send 0", 1);
         asked.loaded(KINDS[3], -180, &[1]);
         let good = "power-on 0\ndamage 0\nevent 1 32\nsend 1\n\
-            display 0 1 1 1 4 0 0 0 0 90 5 0 128\ndisplay 0 1 1 1 4 0 0 0 0 90 -27 0 128\n";
+            display 0 1 1 1 4 0 0 0 0 120 5 0 128\ndisplay 0 1 1 1 4 0 0 0 0 120 -27 0 128\n";
         assert_eq!(asked.check(good.as_bytes()), Ok(()));
         for (from, to) in [
             ("event 1", "event 0"),
             ("send 1", "send 10"),
-            ("90 -27", "90 -26"),
+            ("120 -27", "120 -26"),
             (
-                "display 0 1 1 1 4 0 0 0 0 90 5",
-                "display 1 1 1 1 4 0 0 0 0 90 5",
+                "display 0 1 1 1 4 0 0 0 0 120 5",
+                "display 1 1 1 1 4 0 0 0 0 120 5",
             ),
-            ("display 0 1 1 1 4 0 0 0 0 90 -27 0 128\n", ""),
+            ("display 0 1 1 1 4 0 0 0 0 120 -27 0 128\n", ""),
         ] {
             let bad = good.replace(from, to);
             assert_ne!(bad, good);
             assert!(asked.check(bad.as_bytes()).is_err(), "{to}");
         }
         // The side that loads nothing may show any number.
-        let other = good.replace("90 5", "90 6");
+        let other = good.replace("120 5", "120 6");
         assert_eq!(asked.check(other.as_bytes()), Ok(()));
     }
 

@@ -8,11 +8,11 @@ use crate::frames::{self, Frame, LENGTH};
 use crate::sets::ModeSet;
 
 /// Left at power-on: mark, version 1, side, FD, Off, heading, vertical speed,
-/// roll, pitch, IAS 90, preselected and held altitude.
+/// roll, pitch, IAS 120, preselected and held altitude.
 #[rustfmt::skip]
 const POWER_ON: [u8; LENGTH] = [
     b'F', b'G', b'B', 0, 1, 0, 0, 0,
-    0, 0, 50, 27, 20, 0, 90, 0x1f, 0x40, 0x1f, 0x40,
+    0, 0, 50, 27, 20, 0, 120, 0x1f, 0x40, 0x1f, 0x40,
 ];
 
 /// A byte that no place of a frame under test has by chance alone.

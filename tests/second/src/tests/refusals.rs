@@ -129,7 +129,7 @@ fn refusal_1_stored_readings() {
             (-1e5_f64).to_bits(),
             1e5_f64.to_bits(),
         ] {
-            for whole in [0, 90, -100_000, 100_000, i32::MIN, i32::MAX] {
+            for whole in [0, 120, -100_000, 100_000, i32::MIN, i32::MAX] {
                 let mut bench = after(&[1 << 14]);
                 bench.keep(kind, bits, whole);
                 assert_unsound(bench);

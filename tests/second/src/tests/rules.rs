@@ -162,13 +162,13 @@ fn entry_loads_rounded_and_clamped_readings() {
     }
     events(&mut bench, &[VS]);
     // PITCH came and went within the call and is not loaded.
-    assert_eq!(bench.sides[0].references.all(), [0, 0, 0, 50, 90, -27, 0]);
+    assert_eq!(bench.sides[0].references.all(), [0, 0, 0, 50, 120, -27, 0]);
     events(&mut bench, &[FLC, ALT, ALT]);
     assert_eq!(
         bench.sides[0].references.all(),
         [0, 0, 5_000, 50, 60, -27, 14]
     );
-    assert_eq!(bench.sides[1].references.all(), [0, 0, 0, 0, 90, 0, 0]);
+    assert_eq!(bench.sides[1].references.all(), [0, 0, 0, 0, 120, 0, 0]);
 }
 
 #[test]
@@ -194,13 +194,13 @@ fn the_wheel() {
         calls::turn(&mut bench, 0, 255).unwrap();
         (modes(&bench, 0), bench.sides[0].references.all())
     };
-    let none = [0, 0, 0, 0, 90, 0, 0];
+    let none = [0, 0, 0, 0, 120, 0, 0];
     assert_eq!(turned(&[]), ((0, 0, 0), none));
-    assert_eq!(turned(&[VS]), ((1, 2, 4), [0, 0, 0, -1, 90, 0, 0]));
-    assert_eq!(turned(&[HDG]), ((2, 1, 4), [0, 0, 0, 0, 90, 0, -1]));
+    assert_eq!(turned(&[VS]), ((1, 2, 4), [0, 0, 0, -1, 120, 0, 0]));
+    assert_eq!(turned(&[HDG]), ((2, 1, 4), [0, 0, 0, 0, 120, 0, -1]));
     let approach = [APPR, LAPPR_CAPTURED, VAPPR_CAPTURED];
     assert_eq!(turned(&approach), ((4, 7, 0), none));
-    let pitch = [0, 0, 0, 0, 90, 0, 3];
+    let pitch = [0, 0, 0, 0, 120, 0, 3];
     assert_eq!(turned(&[FLC]), ((1, 1, 4), pitch));
     assert_eq!(turned(&[ALT]), ((1, 1, 4), pitch));
     assert_eq!(turned(&[GO_AROUND]), ((5, 1, 4), pitch));
@@ -231,7 +231,7 @@ fn altitude_and_speed_knobs() {
 
     calls::turn(&mut bench, 2, 128).unwrap();
     assert_eq!(bench.sides[0].references.get(Reference::Ias), 60);
-    assert_eq!(bench.sides[1].references.get(Reference::Ias), 90);
+    assert_eq!(bench.sides[1].references.get(Reference::Ias), 120);
     calls::turn(&mut bench, 3, 255).unwrap();
     assert_eq!(bench.sides[0].references.get(Reference::Heading), 359);
 }

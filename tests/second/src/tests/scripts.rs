@@ -2,7 +2,7 @@
 
 use crate::console;
 
-fn answers(script: &[u8]) -> String {
+pub fn answers(script: &[u8]) -> String {
     let mut output = Vec::new();
     let mut input = script;
     console::run(&mut input, &mut output).unwrap();
@@ -15,7 +15,7 @@ fn one_answer_line_for_each_command() {
         reading roll inf\nreading heading 361\nreading heading 360\nsend 0\nrefresh 1\ndisplay 1\n\
         display 2\npick 0\npick 7\nevent 2097152\nevent 0\nturn 4 1\npanel\npower-on\npick 0\n";
     let expected = "event 0 14\nturn 0\nreading 0\nreading 5\nreading 6\nreading 0\nsend 0\n\
-        refresh 0\ndisplay 0 0 2 1 4 9 0 0 0 90 0 0 129\ndisplay 2 0 0 0 0 0 0 0 0 0 0 0 0\n\
+        refresh 0\ndisplay 0 0 2 1 4 9 0 0 0 120 0 0 129\ndisplay 2 0 0 0 0 0 0 0 0 0 0 0 0\n\
         pick 0 2 1\npick 2 0 0\nevent 4 32\nevent 0 32\nturn 3\npanel\nend\npower-on 0\n\
         pick 0 0 0\n";
     assert_eq!(answers(script), expected);
@@ -24,10 +24,10 @@ fn one_answer_line_for_each_command() {
 #[test]
 fn the_bench_at_power_on() {
     let zero = "0x0000000000000000";
-    let channel = "0 0 0 0 0 0 0 0 0 90 0 0";
+    let channel = "0 0 0 0 0 0 0 0 0 120 0 0";
     let expected = format!(
-        "bench 0 0 0 0 0 0 0 0 {zero} 0x4056800000000000 {zero} {zero} {zero} {zero} \
-         0 90 0 0 0 0 {channel} {channel} {channel} {channel}\n"
+        "bench 0 0 0 0 0 0 0 0 {zero} 0x405e000000000000 {zero} {zero} {zero} {zero} \
+         0 120 0 0 0 0 {channel} {channel} {channel} {channel}\n"
     );
     assert_eq!(answers(b"bench\n"), expected);
 }
@@ -41,9 +41,9 @@ fn a_damaged_bench_is_written_as_it_is_and_refused() {
         event 1\nreading roll nan\ndisplay 2\n";
     let zero = "0x0000000000000000";
     let expected = format!(
-        "{}bench 200 0 0 0 0 0 0 0 {zero} 0x4056800000000000 {zero} 0xfff0000000000000 nan {zero} \
-         0 90 0 -2147483648 0 360 0 3 1 7 1 0 0 0 0 90 0 0 0 0 0 0 0 0 0 0 0 -5 0 0 \
-         0 4 2 6 0 0 0 0 0 90 0 0 0 0 0 0 0 0 0 0 0 90 0 2147483647\n\
+        "{}bench 200 0 0 0 0 0 0 0 {zero} 0x405e000000000000 {zero} 0xfff0000000000000 nan {zero} \
+         0 120 0 -2147483648 0 360 0 3 1 7 1 0 0 0 0 120 0 0 0 0 0 0 0 0 0 0 0 -5 0 0 \
+         0 4 2 6 0 0 0 0 0 120 0 0 0 0 0 0 0 0 0 0 0 120 0 2147483647\n\
          event 1 32\nreading 1\ndisplay 1 0 0 0 0 0 0 0 0 0 0 0 0\n",
         "damage 0\n".repeat(9)
     );
@@ -111,7 +111,7 @@ fn wholes_after(script: &str) -> String {
 
 #[test]
 fn whole_values_stand_after_the_readings_in_their_order() {
-    assert_eq!(wholes_after(""), "0 90 0 0 0 0");
+    assert_eq!(wholes_after(""), "0 120 0 0 0 0");
     let script = "reading altitude -7.5\nreading airspeed 251.5\nreading vertical-speed 33.5\n\
         reading roll 179.75\nreading pitch -0.5\nreading heading 359.5";
     assert_eq!(wholes_after(script), "-8 252 34 -180 0 0");
@@ -121,27 +121,30 @@ fn whole_values_stand_after_the_readings_in_their_order() {
         wholes_after(&format!("{script}\n{refused}")),
         "-8 252 34 -180 0 0"
     );
-    assert_eq!(wholes_after(&format!("{script}\npower-on")), "0 90 0 0 0 0");
+    assert_eq!(
+        wholes_after(&format!("{script}\npower-on")),
+        "0 120 0 0 0 0"
+    );
 }
 
 #[test]
 fn whole_values_are_damaged_each_alone() {
     for (kind, expected) in [
-        ("altitude", "-7 90 0 0 0 0"),
+        ("altitude", "-7 120 0 0 0 0"),
         ("airspeed", "0 -7 0 0 0 0"),
-        ("vertical-speed", "0 90 -7 0 0 0"),
-        ("roll", "0 90 0 -7 0 0"),
-        ("pitch", "0 90 0 0 -7 0"),
-        ("heading", "0 90 0 0 0 -7"),
+        ("vertical-speed", "0 120 -7 0 0 0"),
+        ("roll", "0 120 0 -7 0 0"),
+        ("pitch", "0 120 0 0 -7 0"),
+        ("heading", "0 120 0 0 0 -7"),
     ] {
         let damage = format!("damage whole {kind} -7");
         assert_eq!(wholes_after(&damage), expected);
         let reading = format!("damage reading {kind} -7");
-        assert_eq!(wholes_after(&reading), "0 90 0 0 0 0");
+        assert_eq!(wholes_after(&reading), "0 120 0 0 0 0");
         // The float stays, and so does all else.
         let mended = format!(
             "{damage}\ndamage whole {kind} {}",
-            if kind == "airspeed" { 90 } else { 0 }
+            if kind == "airspeed" { 120 } else { 0 }
         );
         let last = |script: &str| {
             answers(script.as_bytes())
@@ -153,7 +156,7 @@ fn whole_values_are_damaged_each_alone() {
         assert_eq!(last(&format!("{mended}\nbench\n")), last("bench\n"));
     }
     let ends = "damage whole roll 2147483647\ndamage whole pitch -2147483648";
-    assert_eq!(wholes_after(ends), "0 90 0 2147483647 -2147483648 0");
+    assert_eq!(wholes_after(ends), "0 120 0 2147483647 -2147483648 0");
 }
 
 #[test]
@@ -182,7 +185,7 @@ fn a_damaged_whole_value_is_refused_until_it_is_mended() {
 fn a_float_damaged_within_its_whole_value_is_accepted() {
     for (kind, values) in [
         ("altitude", ["0.25", "-0.5", "0.5", "0x0000000000000001"]),
-        ("airspeed", ["90.25", "89.5", "90.5", "90"]),
+        ("airspeed", ["120.25", "119.5", "120.5", "120"]),
         ("heading", ["359.5", "360", "360.5", "-0"]),
     ] {
         for value in values {
@@ -202,13 +205,13 @@ fn a_wrong_line_damages_no_whole_value() {
         "damage whole speed 1",
         "damage hole roll 1",
     ] {
-        assert_eq!(wholes_after(line), "0 90 0 0 0 0", "{line}");
+        assert_eq!(wholes_after(line), "0 120 0 0 0 0", "{line}");
         assert!(is_error(&answers(line.as_bytes()), 1), "{line}");
     }
 }
 
 /// Whether an answer line is the error of that line number.
-fn is_error(answer: &str, number: u32) -> bool {
+pub fn is_error(answer: &str, number: u32) -> bool {
     answer.starts_with(&format!("error {number}: "))
 }
 
@@ -297,7 +300,7 @@ fn clicks_turn_as_far_as_they_say() {
         .map(|line| line.split(' ').nth(6).unwrap())
         .collect();
     assert_eq!(headings, ["71", "303", "303"]);
-    assert!(output.contains("display 0 1 2 1 4 303 30000 0 0 90 0 0 129\n"));
+    assert!(output.contains("display 0 1 2 1 4 303 30000 0 0 120 0 0 129\n"));
 }
 
 #[test]
@@ -332,6 +335,8 @@ fn a_drawing_follows_what_is_watched() {
         ("refresh right", "refresh 0"),
         ("refresh 2", "refresh 2"),
         ("power-on", "power-on 0"),
+        ("start 60", "start 0"),
+        ("start 401", "start 10"),
         ("damage pf 1", "damage 0"),
         ("damage pf 2", "damage 0"),
         ("damage independent 1", "damage 0"),
@@ -388,6 +393,7 @@ fn help_is_a_block() {
     assert_eq!(lines[lines.len() - 2..], ["end", "send 0"]);
     for form in [
         "event WORD",
+        "start SPEED",
         "damage independent N",
         "damage whole KIND N",
         "area LENGTH",
@@ -417,7 +423,7 @@ fn tabs_and_carriage_returns_count_as_bytes_of_a_line() {
 }
 
 /// The frame of left at power-on.
-const LEFT: &str = "46474200010000000000321b14005a1f401f40";
+const LEFT: &str = "46474200010000000000321b1400781f401f40";
 
 #[test]
 fn a_frame_is_written_and_read_in_the_area() {
@@ -426,7 +432,7 @@ fn a_frame_is_written_and_read_in_the_area() {
     let zeros = " 0".repeat(13);
     let expected = format!(
         "bytes\narea 0\nbytes {}\npoke 0\npoke 0\nwrite 0\nbytes ab{LEFT}cd\n\
-         read 0 0 0 0 0 0 0 0 0 0 0 90 0 0\nread 8{zeros}\nread 7{zeros}\nread 8{zeros}\n\
+         read 0 0 0 0 0 0 0 0 0 0 0 120 0 0\nread 8{zeros}\nread 7{zeros}\nread 8{zeros}\n\
          poke 0\nread 9{zeros}\nwrite 2\nwrite 7\nbytes ab{}cd\n",
         "00".repeat(21),
         LEFT.replacen("000100", "000102", 1),
@@ -455,7 +461,7 @@ fn the_area_is_no_part_of_the_bench() {
     let written = format!("bytes {LEFT}");
     assert_eq!(lines[3], written);
     assert_eq!(lines[5], "write 1");
-    assert_eq!(lines[6], "read 0 0 0 0 0 0 0 0 0 0 0 90 0 0");
+    assert_eq!(lines[6], "read 0 0 0 0 0 0 0 0 0 0 0 120 0 0");
     assert!(is_error(lines[7], 8) && is_error(lines[8], 9));
     assert_eq!(lines[9], written);
     assert_eq!(lines[11], format!("bytes {}", "00".repeat(19)));

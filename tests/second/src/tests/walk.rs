@@ -1,4 +1,4 @@
-//! Long lists of calls from power-on with arguments drawn at random.
+//! Long lists of calls from a start with arguments drawn at random.
 
 use super::words::*;
 use crate::bench::{Bench, Kind, Refusal};
@@ -64,6 +64,11 @@ fn approach(bench: &mut Bench, promises: &mut Promises) -> Option<Refusal> {
     refusal
 }
 
+/// A starting speed, mostly one that is accepted.
+fn speed(draw: &mut Draw) -> i32 {
+    draw.below(400) as i32 + 30
+}
+
 fn reading(bench: &mut Bench, draw: &mut Draw) -> Option<Refusal> {
     let kind = Kind::ALL[draw.below(6) as usize];
     let value = f64::from(draw.below(1_200)) - 400.0;
@@ -127,10 +132,13 @@ fn check(bench: &Bench, promises: &Promises) {
 
 #[test]
 fn lists_of_calls_keep_the_third_demand() {
-    let (mut independent, mut ended) = (0, 0);
+    let (mut independent, mut ended, mut refused) = (0, 0, 0);
     for start in 0..200 {
         let mut draw = Draw(start);
-        let mut bench = Bench::power_on();
+        // Where the third demand speaks of power-on it means the start that was
+        // made, a refused one included (document 02, 2026-06).
+        let (mut bench, result) = Bench::start(speed(&mut draw));
+        refused += u32::from(result.is_err());
         let mut promises = Promises {
             sent: [shown_by(&bench, 0), shown_by(&bench, 1)],
             passive: [None; 2],
@@ -146,4 +154,5 @@ fn lists_of_calls_keep_the_third_demand() {
         }
     }
     assert!(independent > 5_000 && ended > 1_000);
+    assert!((10..100).contains(&refused));
 }

@@ -77,7 +77,7 @@ fn with_readings() -> Bench {
 #[test]
 fn power_on_has_them_true() {
     let bench = Bench::power_on();
-    assert_eq!(bench.wholes, [0, 90, 0, 0, 0, 0]);
+    assert_eq!(bench.wholes, [0, 120, 0, 0, 0, 0]);
     for kind in Kind::ALL {
         assert_eq!(kind.whole(bench.reading(kind)), Ok(bench.whole(kind)));
     }

@@ -179,7 +179,7 @@ mod tests {
                 good += "area 0\npoke 0\npoke 0\n";
             }
             good += &match coded.get(code) {
-                Some(set) => format!("poke 0\nread 0 0 0 {set} 0 0 0 0 90 0 0\n"),
+                Some(set) => format!("poke 0\nread 0 0 0 {set} 0 0 0 0 120 0 0\n"),
                 None => "poke 0\nread 9 0 0 0 0 0 0 0\n".to_string(),
             };
         }

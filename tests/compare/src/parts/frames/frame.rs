@@ -46,7 +46,7 @@ pub const CODE: Field = FIELDS[2];
 pub const HEAD: usize = 5;
 
 /// The frame of left at power-on.
-pub const LEFT: Frame = *b"FGB\x00\x01\x00\x00\x00\x00\x00\x32\x1b\x14\x00\x5a\x1f\x40\x1f\x40";
+pub const LEFT: Frame = *b"FGB\x00\x01\x00\x00\x00\x00\x00\x32\x1b\x14\x00\x78\x1f\x40\x1f\x40";
 
 /// A frame of right with another number in every field. The two bytes of a wide one differ, and so
 /// do the numbers of the altitudes.

@@ -22,7 +22,7 @@ const DAMAGES: [&str; 16] = [
     "damage right-inbox roll -28",
     "damage reading altitude nan",
     "damage reading heading 361",
-    "damage whole airspeed 91",
+    "damage whole airspeed 121",
     "damage whole heading 360",
     "damage independent 1",
 ];

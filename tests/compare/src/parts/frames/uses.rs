@@ -220,7 +220,7 @@ fn any_references(script: &mut Script, side: &str, rng: &mut Rng) {
 // ---- The area itself ----
 
 /// What leaves the area as it is: every other command, and errors.
-const OTHERS: [&str; 39] = [
+const OTHERS: [&str; 42] = [
     "power-on",
     "event 16384",
     "event 0",
@@ -259,6 +259,9 @@ const OTHERS: [&str; 39] = [
     "area -0",
     "area 40 40",
     "poke 40 00",
+    "start 90",
+    "start 401",
+    "start",
     "power-on",
 ];
 

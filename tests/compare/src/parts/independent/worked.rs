@@ -18,9 +18,9 @@ macro_rules! bench {
     ($shared:literal, $counts:literal, $($box:literal),*) => {
         concat!(
             "bench ", $shared, " ", $counts,
-            " 0x0000000000000000 0x4056800000000000 0x0000000000000000",
+            " 0x0000000000000000 0x405e000000000000 0x0000000000000000",
             " 0x0000000000000000 0x0000000000000000 0x0000000000000000",
-            " 0 90 0 0 0 0",
+            " 0 120 0 0 0 0",
             $(" ", $box),*
         )
     };
@@ -38,10 +38,10 @@ const BEGUN: Case = &[
         bench!(
             "0 0 0 0",
             "0 0 0 0",
-            "1 4 0 7 0 0 0 0 0 90 0 0",
-            "0 0 0 0 0 0 0 0 0 90 0 0",
-            "0 0 0 0 0 0 0 0 0 90 0 0",
-            "0 0 0 0 0 0 0 0 0 90 0 0"
+            "1 4 0 7 0 0 0 0 0 120 0 0",
+            "0 0 0 0 0 0 0 0 0 120 0 0",
+            "0 0 0 0 0 0 0 0 0 120 0 0",
+            "0 0 0 0 0 0 0 0 0 120 0 0"
         ),
     ),
     ("send 0", "send 0"),
@@ -54,10 +54,10 @@ const BEGUN: Case = &[
         bench!(
             "0 0 0 0",
             "0 0 0 0",
-            "1 4 0 7 0 0 0 0 0 90 0 0",
-            "0 4 0 7 0 0 0 0 0 90 0 0",
-            "0 0 0 0 0 0 0 0 0 90 0 0",
-            "1 4 0 7 0 0 0 0 0 90 0 0"
+            "1 4 0 7 0 0 0 0 0 120 0 0",
+            "0 4 0 7 0 0 0 0 0 120 0 0",
+            "0 0 0 0 0 0 0 0 0 120 0 0",
+            "1 4 0 7 0 0 0 0 0 120 0 0"
         ),
     ),
     ("press independent", "event 0 20"),
@@ -66,14 +66,14 @@ const BEGUN: Case = &[
         bench!(
             "0 0 0 1",
             "0 0 0 0",
-            "1 4 0 7 0 0 0 0 0 90 0 0",
-            "0 4 0 7 0 0 0 0 0 90 0 0",
-            "0 0 0 0 0 0 0 0 0 90 0 0",
-            "1 4 0 7 0 0 0 0 0 90 0 0"
+            "1 4 0 7 0 0 0 0 0 120 0 0",
+            "0 4 0 7 0 0 0 0 0 120 0 0",
+            "0 0 0 0 0 0 0 0 0 120 0 0",
+            "1 4 0 7 0 0 0 0 0 120 0 0"
         ),
     ),
-    ("display 0", "display 0 1 4 7 0 0 0 0 0 90 0 0 132"),
-    ("display 1", "display 0 0 4 7 0 0 0 0 0 90 0 0 132"),
+    ("display 0", "display 0 1 4 7 0 0 0 0 0 120 0 0 132"),
+    ("display 1", "display 0 0 4 7 0 0 0 0 0 120 0 0 132"),
 ];
 
 /// Right has NAV armed and left has not: one clears it and the other arms it, and both flight
@@ -83,10 +83,10 @@ const SHARED: Case = &[
     ("damage right set 4 1 7 0", "damage 0"),
     ("damage independent 1", "damage 0"),
     ("event 32768", "event 0 15"),
-    ("display 0", "display 0 1 4 7 1 0 0 0 0 90 0 0 134"),
-    ("display 1", "display 0 1 4 7 0 0 0 0 0 90 0 0 132"),
+    ("display 0", "display 0 1 4 7 1 0 0 0 0 120 0 0 134"),
+    ("display 1", "display 0 1 4 7 0 0 0 0 0 120 0 0 132"),
     ("event 2", "event 0 1"),
-    ("display 1", "display 0 1 4 7 0 0 0 0 0 90 0 0 196"),
+    ("display 1", "display 0 1 4 7 0 0 0 0 0 120 0 0 196"),
     ("event 2", "event 0 1"),
     ("event 128", "event 0 7"),
     (
@@ -94,10 +94,10 @@ const SHARED: Case = &[
         bench!(
             "0 0 0 0",
             "0 0 0 0",
-            "1 4 1 7 0 0 0 0 0 90 0 0",
-            "0 0 0 0 0 0 0 0 0 90 0 0",
-            "0 0 0 0 0 0 0 0 0 90 0 0",
-            "0 0 0 0 0 0 0 0 0 90 0 0"
+            "1 4 1 7 0 0 0 0 0 120 0 0",
+            "0 0 0 0 0 0 0 0 0 120 0 0",
+            "0 0 0 0 0 0 0 0 0 120 0 0",
+            "0 0 0 0 0 0 0 0 0 120 0 0"
         ),
     ),
 ];
@@ -134,9 +134,9 @@ const KNOBS: Case = &[
             "0 0 0 1",
             "7 250 5 9",
             "0 4 0 7 0 9 -600 0 0 400 0 0",
-            "0 4 0 7 0 4 -600 0 0 95 0 0",
-            "0 0 0 0 0 0 0 0 0 90 0 0",
-            "0 0 0 0 0 0 0 0 0 90 0 0"
+            "0 4 0 7 0 4 -600 0 0 125 0 0",
+            "0 0 0 0 0 0 0 0 0 120 0 0",
+            "0 0 0 0 0 0 0 0 0 120 0 0"
         ),
     ),
 ];
@@ -157,26 +157,26 @@ const REFRESHED: Case = &[
     ("knob heading 77", "turn 0"),
     ("refresh left", "refresh 0"),
     ("refresh right", "refresh 0"),
-    ("display left", "display 0 0 4 7 0 77 0 0 0 90 0 0 132"),
-    ("display right", "display 0 0 4 7 0 77 0 0 0 90 0 0 132"),
+    ("display left", "display 0 0 4 7 0 77 0 0 0 120 0 0 132"),
+    ("display right", "display 0 0 4 7 0 77 0 0 0 120 0 0 132"),
     ("send left", "send 0"),
     ("refresh left", "refresh 0"),
     ("press independent", "event 0 20"),
-    ("display right", "display 0 0 4 7 0 77 0 0 0 90 0 0 132"),
+    ("display right", "display 0 0 4 7 0 77 0 0 0 120 0 0 132"),
     ("refresh right", "refresh 0"),
     (
         "bench",
         bench!(
             "0 0 0 0",
             "0 0 0 77",
-            "0 4 0 7 0 77 0 0 0 90 0 0",
-            "0 0 0 0 0 77 0 0 0 90 0 0",
-            "1 4 0 7 0 0 0 0 0 90 0 0",
-            "0 4 0 7 0 77 0 0 0 90 0 0"
+            "0 4 0 7 0 77 0 0 0 120 0 0",
+            "0 0 0 0 0 77 0 0 0 120 0 0",
+            "1 4 0 7 0 0 0 0 0 120 0 0",
+            "0 4 0 7 0 77 0 0 0 120 0 0"
         ),
     ),
     ("refresh right", "refresh 0"),
-    ("display right", "display 0 0 4 7 0 77 0 0 0 90 0 0 132"),
+    ("display right", "display 0 0 4 7 0 77 0 0 0 120 0 0 132"),
     ("press independent", "event 0 20"),
     ("pick right", "pick 0 4 7"),
 ];
@@ -192,12 +192,12 @@ const TRANSFERRED: Case = &[
     ("reading roll 5.5", "reading 0"),
     ("reading pitch -6.5", "reading 0"),
     ("press transfer", "event 0 5"),
-    ("display left", "display 0 1 4 7 0 0 0 0 0 90 0 0 260"),
-    ("display right", "display 0 0 1 1 4 0 0 0 0 90 6 -6 256"),
+    ("display left", "display 0 1 4 7 0 0 0 0 0 120 0 0 260"),
+    ("display right", "display 0 0 1 1 4 0 0 0 0 120 6 -6 256"),
     ("knob speed 9", "turn 0"),
     ("press vs", "event 0 17"),
-    ("display left", "display 0 1 4 7 0 0 0 0 0 90 0 0 260"),
-    ("display right", "display 0 1 1 2 4 0 0 0 0 99 6 -6 264"),
+    ("display left", "display 0 1 4 7 0 0 0 0 0 120 0 0 260"),
+    ("display right", "display 0 1 1 2 4 0 0 0 0 129 6 -6 264"),
 ];
 
 /// The flag is sound only while both sides have both modes.
@@ -221,10 +221,10 @@ const DAMAGED: Case = &[
         bench!(
             "0 0 0 0",
             "0 0 0 0",
-            "0 0 0 0 0 0 0 0 0 90 0 0",
-            "0 0 0 0 0 0 0 0 0 90 0 0",
-            "0 0 0 0 0 0 0 0 0 90 0 0",
-            "0 0 0 0 0 0 0 0 0 90 0 0"
+            "0 0 0 0 0 0 0 0 0 120 0 0",
+            "0 0 0 0 0 0 0 0 0 120 0 0",
+            "0 0 0 0 0 0 0 0 0 120 0 0",
+            "0 0 0 0 0 0 0 0 0 120 0 0"
         ),
     ),
 ];

@@ -1,7 +1,7 @@
 //! Lines that are commands, and lines that look like commands.
 
 /// One of each form, as they should be.
-pub const VALID: [&str; 59] = [
+pub const VALID: [&str; 61] = [
     "event 16384",
     "event 1048576",
     "event 0",
@@ -25,6 +25,8 @@ pub const VALID: [&str; 59] = [
     "pick 0",
     "pick 2",
     "power-on",
+    "start 90",
+    "start -7",
     "bench",
     "panel",
     "damage pf 1",
@@ -33,9 +35,9 @@ pub const VALID: [&str; 59] = [
     "damage right-inbox set 0 0 0 0",
     "damage left-inbox held -8000",
     "damage right ias 250",
-    // These keep the bench of power-on sound, so that calls after them are carried out.
+    // These keep the default bench sound, so that calls after them are carried out.
     "damage reading vertical-speed -0.5",
-    "damage whole airspeed 90",
+    "damage whole airspeed 120",
     "damage whole vertical-speed -0",
     "press hdg",
     "press ap-disconnect",
@@ -54,7 +56,7 @@ pub const VALID: [&str; 59] = [
     "watch off",
     "help",
     "area 24",
-    "poke 5 46474200010000000000321b14005a1f401f40",
+    "poke 5 46474200010000000000321b1400781f401f40",
     "read 5",
     "poke 10 01",
     "write 0 0",
@@ -132,7 +134,7 @@ fn capitalized(line: &str) -> String {
     first.to_uppercase() + rest
 }
 
-const ODD: [&str; 107] = [
+const ODD: [&str; 129] = [
     "",
     "   ",
     "#",
@@ -175,6 +177,28 @@ const ODD: [&str; 107] = [
     "power on",
     "power-on 0",
     "power-on 1",
+    "power-on 90",
+    "power-on start 90",
+    "start",
+    "starts 90",
+    "restart 90",
+    "start90",
+    "start-90",
+    "start=90",
+    "start speed 90",
+    "start 90 speed",
+    "start 90 91",
+    "start 90 90",
+    "start 90 kt",
+    "start x",
+    "start default",
+    "start left",
+    "start nan",
+    "start 0x405e000000000000",
+    "start 6e1",
+    "start #90",
+    "start 4294967416",
+    "start 18446744073709551736",
     "bench 0",
     "panel 0",
     "end",
@@ -252,7 +276,7 @@ mod tests {
         for name in [
             "event", "turn", "reading", "send", "refresh", "display", "pick", "power-on", "bench",
             "panel", "damage", "press", "signal", "knob", "watch", "help", "area", "poke", "write",
-            "read", "bytes",
+            "read", "bytes", "start",
         ] {
             let found = VALID
                 .iter()
@@ -277,6 +301,9 @@ mod tests {
             "pick 0\r",
             "event 16384#",
             "   power-on",
+            "start",
+            "start 90 x",
+            "START 90",
         ] {
             assert!(all.contains(&line.to_string()), "{line}");
         }

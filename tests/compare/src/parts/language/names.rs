@@ -6,7 +6,7 @@ use std::collections::BTreeSet;
 use crate::parts::words::{BOXES, KINDS, KNOBS, REFERENCES, SIDES, SIGNALS, SWITCHES};
 
 /// The places; each takes a word where the braces stand.
-const PLACES: [&str; 40] = [
+const PLACES: [&str; 41] = [
     "{}",
     "event {}",
     "press {}",
@@ -22,6 +22,7 @@ const PLACES: [&str; 40] = [
     "display {}",
     "pick {}",
     "power-on {}",
+    "start {}",
     "bench {}",
     "panel {}",
     "watch {}",
@@ -49,9 +50,10 @@ const PLACES: [&str; 40] = [
     "bytes {}",
 ];
 
-const COMMANDS: [&str; 21] = [
+const COMMANDS: [&str; 22] = [
     "event", "turn", "reading", "send", "refresh", "display", "pick", "power-on", "bench", "panel",
     "damage", "press", "signal", "knob", "watch", "help", "area", "poke", "write", "read", "bytes",
+    "start",
 ];
 
 const OTHERS: [&str; 11] = [
@@ -107,6 +109,7 @@ fn homes() -> Vec<(&'static str, Vec<&'static str>)> {
         ("{} nav-captured", vec!["signal"]),
         ("{} wheel 7", vec!["knob"]),
         ("{} on", vec!["watch"]),
+        ("{} 90", vec!["start"]),
         ("{} 24", vec!["area"]),
         ("{} 0 5a", vec!["poke"]),
         ("{} 0 0", vec!["write"]),
@@ -206,6 +209,22 @@ mod tests {
             "bytes bytes",
         ] {
             assert!(all.contains(line), "{line}");
+        }
+    }
+
+    #[test]
+    fn a_start_is_among_them_and_so_is_what_nearly_is_one() {
+        let (all, near) = (everywhere(), near_misses());
+        for line in [
+            "start 14",
+            "start speed",
+            "start power-on",
+            "power-on start",
+        ] {
+            assert!(all.contains(&line.to_string()), "{line}");
+        }
+        for line in ["star 90", "Start 90", "start start 90"] {
+            assert!(near.contains(&line.to_string()), "{line}");
         }
     }
 

@@ -1,7 +1,7 @@
 //! Numbers of every form, good and bad, at every place that takes one.
 
 /// The places; each takes a number where the braces stand.
-const PLACES: [&str; 36] = [
+const PLACES: [&str; 38] = [
     "event {}",
     "turn {} 7",
     "turn 1 {}",
@@ -9,6 +9,8 @@ const PLACES: [&str; 36] = [
     "refresh {}",
     "display {}",
     "pick {}",
+    "start {}",
+    "start -{}",
     "damage pf {}",
     "damage independent {}",
     "damage left set {} 0 1 0",
@@ -231,7 +233,7 @@ mod tests {
     #[test]
     fn every_form_stands_at_every_place() {
         let numbers = 69 + 72 + 16 + 4;
-        assert_eq!(lines().len(), 36 * numbers);
+        assert_eq!(lines().len(), 38 * numbers);
     }
 
     #[test]
@@ -280,6 +282,25 @@ mod tests {
             "knob 1 1.0",
         ] {
             assert!(all.contains(&line.to_string()), "{line}");
+        }
+    }
+
+    #[test]
+    fn the_limits_of_a_speed_are_tried() {
+        let all = lines();
+        for number in [
+            "2147483647",
+            "2147483648",
+            "-2147483648",
+            "-2147483649",
+            "--1",
+            "+1",
+            "1.0",
+            "-007",
+            "300",
+        ] {
+            let line = format!("start {number}");
+            assert!(all.contains(&line), "{line}");
         }
     }
 

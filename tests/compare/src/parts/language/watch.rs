@@ -7,7 +7,7 @@ use crate::script::Script;
 const STEPS: usize = 1_500;
 
 /// Lines that are refused, that are errors, and that have no answer.
-const OTHERS: [&str; 47] = [
+const OTHERS: [&str; 51] = [
     "event 2097152",
     "event 4294967295",
     "turn 4 0",
@@ -18,6 +18,8 @@ const OTHERS: [&str; 47] = [
     "refresh 4294967295",
     "display 2",
     "pick 2",
+    "start 59",
+    "start 401",
     "damage pf 2",
     "damage independent 1",
     "damage left set 1 1 1 1",
@@ -35,6 +37,8 @@ const OTHERS: [&str; 47] = [
     "knob wheel 128",
     "reading speed 1",
     "send both",
+    "start",
+    "start 60.0",
     "damage pf 256",
     "damage independent 2",
     "damage whole roll x",

@@ -374,7 +374,7 @@ pub mod tests {
 |   preselected altitude  3000 ft     |  |   preselected altitude     0 ft     |
 |   held altitude            0 ft     |  |   held altitude            0 ft     |
 |   vertical speed       -1100 ft/min |  |   vertical speed           0 ft/min |
-| * indicated airspeed     341 kt     |  |   indicated airspeed      90 kt     |
+| * indicated airspeed     341 kt     |  |   indicated airspeed     120 kt     |
 |   roll                    -2 deg    |  |   roll                     0 deg    |
 |   pitch                    4 deg    |  |   pitch                    0 deg    |
 +-------------------------------------+  +-------------------------------------+
@@ -383,7 +383,7 @@ end
 
     pub const DISPLAYS: [&str; 2] = [
         "display 0 1 2 3 14 120 3000 0 -11 341 -2 4 213\n",
-        "display 0 0 0 0 0 0 0 0 0 90 0 0 192\n",
+        "display 0 0 0 0 0 0 0 0 0 120 0 0 192\n",
     ];
 
     const REFUSED: &str = "display 1 0 0 0 0 0 0 0 0 0 0 0 0\n";
@@ -552,7 +552,7 @@ end
             ("120 deg", "120 ft "),
             ("-1100 ft/min", "  -11 ft/min"),
             (" 341 kt", " 342 kt"),
-            ("90 kt", "60 kt"),
+            ("120 kt", "160 kt"),
             ("   -2 deg", "    2 deg"),
         ] {
             let bad = DRAWING.replacen(right, wrong, 1);

@@ -12,8 +12,8 @@ macro_rules! bench {
             $readings,
             " ",
             $wholes,
-            " 0 0 0 0 0 0 0 0 0 90 0 0 0 0 0 0 0 0 0 0 0 90 0 0",
-            " 0 0 0 0 0 0 0 0 0 90 0 0 0 0 0 0 0 0 0 0 0 90 0 0"
+            " 0 0 0 0 0 0 0 0 0 120 0 0 0 0 0 0 0 0 0 0 0 120 0 0",
+            " 0 0 0 0 0 0 0 0 0 120 0 0 0 0 0 0 0 0 0 0 0 120 0 0"
         )
     };
 }
@@ -23,9 +23,9 @@ const KEPT: Case = &[
     (
         "bench",
         bench!(
-            "0x0000000000000000 0x4056800000000000 0x0000000000000000 \
+            "0x0000000000000000 0x405e000000000000 0x0000000000000000 \
              0x0000000000000000 0x0000000000000000 0x0000000000000000",
-            "0 90 0 0 0 0"
+            "0 120 0 0 0 0"
         ),
     ),
     ("reading altitude 56000.5", "reading 0"),
@@ -52,9 +52,9 @@ const KEPT: Case = &[
     (
         "bench",
         bench!(
-            "0x0000000000000000 0x4056800000000000 0x0000000000000000 \
+            "0x0000000000000000 0x405e000000000000 0x0000000000000000 \
              0x0000000000000000 0x0000000000000000 0x0000000000000000",
-            "0 90 0 0 0 0"
+            "0 120 0 0 0 0"
         ),
     ),
 ];
@@ -67,7 +67,7 @@ const LOADED: Case = &[
     ("reading vertical-speed -33.5", "reading 0"),
     ("reading roll 179.75", "reading 0"),
     ("press vs", "event 0 17"),
-    ("display 0", "display 0 1 1 2 4 0 0 0 -34 90 -27 0 136"),
+    ("display 0", "display 0 1 1 2 4 0 0 0 -34 120 -27 0 136"),
     ("press flc", "event 0 18"),
     ("display 0", "display 0 1 1 3 4 0 0 0 -34 250 -27 0 144"),
     ("press alt", "event 0 19"),
@@ -75,18 +75,18 @@ const LOADED: Case = &[
     ("reading pitch 2.5", "reading 0"),
     ("press alt", "event 0 19"),
     ("display 0", "display 0 1 1 1 4 0 0 56000 -34 250 -27 2 128"),
-    ("display 1", "display 0 0 0 0 0 0 0 0 0 90 0 0 128"),
+    ("display 1", "display 0 0 0 0 0 0 0 0 0 120 0 0 128"),
 ];
 
 /// Every call is refused with 1, also where another refusal would follow; then it is mended.
 const DAMAGED: Case = &[
     ("area 20", "area 0"),
-    ("damage whole airspeed 91", "damage 0"),
+    ("damage whole airspeed 121", "damage 0"),
     ("event 0", "event 1 32"),
     ("event 2097152", "event 1 32"),
     ("turn 3 9", "turn 1"),
     ("turn 4 1", "turn 1"),
-    ("reading airspeed 91", "reading 1"),
+    ("reading airspeed 121", "reading 1"),
     ("reading roll nan", "reading 1"),
     ("reading heading 361", "reading 1"),
     ("send 0", "send 1"),
@@ -101,14 +101,14 @@ const DAMAGED: Case = &[
     (
         "bench",
         bench!(
-            "0x0000000000000000 0x4056800000000000 0x0000000000000000 \
+            "0x0000000000000000 0x405e000000000000 0x0000000000000000 \
              0x0000000000000000 0x0000000000000000 0x0000000000000000",
-            "0 91 0 0 0 0"
+            "0 121 0 0 0 0"
         ),
     ),
-    ("damage whole airspeed 90", "damage 0"),
+    ("damage whole airspeed 120", "damage 0"),
     ("press flc", "event 0 18"),
-    ("display 0", "display 0 1 1 3 4 0 0 0 0 90 0 0 144"),
+    ("display 0", "display 0 1 1 3 4 0 0 0 0 120 0 0 144"),
 ];
 
 /// North and inverted are kept by the number that is in range, and by no other.
@@ -138,7 +138,7 @@ const CIRCLES: Case = &[
     ("event 0", "event 1 32"),
     ("damage whole roll 179", "damage 0"),
     ("press fd-left", "event 0 6"),
-    ("display 0", "display 0 1 1 1 4 0 0 0 0 90 27 0 128"),
+    ("display 0", "display 0 1 1 1 4 0 0 0 0 120 27 0 128"),
 ];
 
 /// The whole value stays behind a float that is changed alone.
@@ -167,7 +167,7 @@ const FLOAT_ALONE: Case = &[
     ("damage reading altitude 56000.5", "damage 0"),
     ("damage whole altitude 56000", "damage 0"),
     ("press alt", "event 0 19"),
-    ("display 0", "display 0 1 1 4 0 0 0 56000 0 90 0 0 160"),
+    ("display 0", "display 0 1 1 4 0 0 0 56000 0 120 0 0 160"),
 ];
 
 /// Lines that are wrong change nothing; those that are right write one whole value.
@@ -190,9 +190,9 @@ const LINES: Case = &[
     (
         "bench",
         bench!(
-            "0x0000000000000000 0x4056800000000000 0x0000000000000000 \
+            "0x0000000000000000 0x405e000000000000 0x0000000000000000 \
              0x0000000000000000 0x0000000000000000 0x0000000000000000",
-            "12 90 -7 2147483647 -2147483648 0"
+            "12 120 -7 2147483647 -2147483648 0"
         ),
     ),
 ];
