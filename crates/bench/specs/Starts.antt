@@ -23,7 +23,7 @@ pub record StartLaws : Type 0 where
   -- the bench of an accepted start is the one at its speed, and of a refused one that of power-on
   pub accepted-bench : (speed : ℤ) → Accepted speed → started speed .bench ≡ benchAt speed
   pub refused-bench : (speed : ℤ) → (Accepted speed → ⊥) → started speed .bench ≡ powerOn
-  -- the airspeed of the bench at a speed is a finite float of no sign whose exact value is this number over 1
+  -- the airspeed of the bench at a speed is a finite float, not negative, whose exact value is this number over 1
   pub exact : (n : ℕ) → n ≤ 400 → HasValue (benchAt (pos n) .readings .airspeed) false n 1
   -- power-on is the start at 120 knots, and its airspeed the float 120.0
   pub power-on : started (pos 120) ≡ record { refusal = 0; bench = powerOn }

@@ -157,7 +157,8 @@ fn start_wholes(speed: i32) -> Wholes
 fn bench_at(speed: i32) -> Bench
     ensures { λ res. ⌜ res ≡ benchAt speed ⌝ }
 {
-    let channel = start_channel(speed);
+    let side = start_channel(speed);
+    let inbox = start_channel(speed);
     let readings = start_readings(speed);
     let wholes = start_wholes(speed);
     Bench {
@@ -175,10 +176,10 @@ fn bench_at(speed: i32) -> Bench
         },
         readings,
         wholes,
-        left: channel,
-        right: channel,
-        left_inbox: channel,
-        right_inbox: channel,
+        left: side,
+        right: side,
+        left_inbox: inbox,
+        right_inbox: inbox,
     }
 }
 

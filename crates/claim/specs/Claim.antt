@@ -1,7 +1,7 @@
 -- Demand 3, document 01, 'The claim over a list of calls', and document 02, 2026-03 and 2026-06: what holds after a list of calls, whatever they ask for and whether or
--- not they are refused, from any start, from power-on as one of them, and from any other sound bench; and what becomes of a list from an unsound one. `after` and `replies` of Lists apply the rules to one call after
--- another; `accepted`, `transfers`, `refreshes`, `sends` and `pilotFlying` there go by the calls alone, and `OffThroughout` by the rules' bench. Here are definitions and
--- statements only; the proofs are in proofs/.
+-- not they are refused, from any start, from power-on as one of them, and from any other sound bench; and what becomes of a list from an unsound one. `after` and
+-- `replies` of Lists apply the rules to one call after another; `accepted`, `transfers`, `refreshes`, `sends` and `pilotFlying` there go by the calls alone, and
+-- `OffThroughout` by the rules' bench. Here are definitions and statements only; the proofs are in proofs/.
 use mathlib.Core.Path.{_≡_}
 use mathlib.Core.Bool.{Bool, true, false, not}
 use mathlib.Core.List.{List, [], _∷_, _++_, map}

@@ -1,6 +1,6 @@
--- Runs of the calls as the code's own contracts allow them, and the whole of demand 3 of them. Document 01, 'The claim over a list of calls'; document 02, 2026-06. What an entry's contract
--- says of a result is what the entry's own crate passes on to its callers (`Learnt`), so that a weaker contract allows more runs. Definitions and the statement only;
--- the proof is in proofs/.
+-- Runs of the calls as the code's own contracts allow them, and the whole of demand 3 of them. Document 01, 'The claim over a list of calls'; document 02, 2026-06.
+-- What an entry's contract says of a result is what the entry's own crate passes on to its callers (`Learnt`), so that a weaker contract allows more runs. Definitions
+-- and the statement only; the proof is in proofs/.
 use mathlib.Core.Path.{_≡_}
 use mathlib.Core.Bool.{true, false}
 use mathlib.Core.List.{List, [], _∷_}
