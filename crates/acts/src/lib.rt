@@ -1,4 +1,6 @@
 // What a command of a script does to the bench, and what it answers.
+#![tactic(auto)]
+
 mod damage;
 
 ghost use Rattle.std.specs.Prelude.{◌≡◌};
@@ -58,7 +60,7 @@ fn click(b: Bench, knob: u32, clicks: u8) -> Answer
 
 // What a command is for, beside its answer: it shows something, it can change the bench, it turns the watch on
 // or off, or it changes the bus area.
-#[derive(Drop)]
+#[derive(Clone, Copy)]
 pub enum Effect {
     Shows,
     Acts,

@@ -1,4 +1,6 @@
 // What a line of a script does to the bus area, which is the first bytes of its store.
+#![tactic(auto)]
+
 ghost use Rattle.std.specs.Prelude.{◌≡◌, ◌≤◌, min, length, take, replicate};
 ghost use Rattle.numerals.specs.Pairs.{laid_over};
 ghost use Rattle.frames.specs.Frames.{write_refusal, area_written};
@@ -8,7 +10,7 @@ use bench::Bench;
 use scripts::Command;
 
 // What is done to the area.
-#[derive(Drop)]
+#[derive(Clone, Copy)]
 pub enum AreaAct {
     Leaves,
     Clears(u32),
@@ -94,7 +96,7 @@ fn write_store(b: Bench, side: u32, start: u64, store: &mut [u8], n: usize) -> u
 }
 
 // What was asked, the refusal, and the length of the area then.
-#[derive(Drop)]
+#[derive(Clone, Copy)]
 pub struct AreaAnswer {
     pub command: Command,
     pub refusal: u32,

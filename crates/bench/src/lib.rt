@@ -1,5 +1,7 @@
 // The bench value: what it holds at a start, which sides act, and when it is sound. `parts` replaces
 // and reads its parts, `ranges` has the ranges of references and readings, `feed` the readings.
+#![tactic(auto)]
+
 pub mod feed;
 pub mod parts;
 pub mod ranges;
@@ -22,7 +24,7 @@ use ranges::{Range, reference_in_range};
 
 // What the two sides share and an event can change: the PF side, AP, the overspeed flag, and whether
 // independent operation is on, in which both sides act.
-#[derive(Drop)]
+#[derive(Clone, Copy)]
 pub struct Shared {
     pub pf: u32,
     pub ap: bool,
@@ -32,7 +34,7 @@ pub struct Shared {
 
 // What modes aim for, in degrees, feet, hundreds of feet a minute, knots. Their places are 0 to 6
 // in this order.
-#[derive(Drop)]
+#[derive(Clone, Copy)]
 pub struct References {
     pub heading: i32,
     pub preselected: i32,
@@ -44,7 +46,7 @@ pub struct References {
 }
 
 // What a side holds, and what its inbox holds of the other side: flight director, set, references.
-#[derive(Drop)]
+#[derive(Clone, Copy)]
 pub struct Channel {
     pub fd: bool,
     pub set: ModeSet,
@@ -52,7 +54,7 @@ pub struct Channel {
 }
 
 // The last counts of the four knobs, numbered 0 to 3 in this order.
-#[derive(Drop)]
+#[derive(Clone, Copy)]
 pub struct Counts {
     pub wheel: u8,
     pub altitude: u8,
@@ -61,7 +63,7 @@ pub struct Counts {
 }
 
 // The last readings, as they came.
-#[derive(Drop)]
+#[derive(Clone, Copy)]
 pub struct Readings {
     pub altitude: f64,
     pub airspeed: f64,
@@ -73,7 +75,7 @@ pub struct Readings {
 
 // Their whole values, in the same units as the ranges of the readings. The kinds are numbered 0 to 5 in
 // this order.
-#[derive(Drop)]
+#[derive(Clone, Copy)]
 pub struct Wholes {
     pub altitude: i32,
     pub airspeed: i32,
@@ -84,7 +86,7 @@ pub struct Wholes {
 }
 
 // A reading of one of six kinds.
-#[derive(Drop)]
+#[derive(Clone, Copy)]
 pub enum Reading {
     Altitude(f64),
     Airspeed(f64),
@@ -95,7 +97,7 @@ pub enum Reading {
 }
 
 // A bench. It can hold damage: `is_sound` tells. Its four boxes are numbered 0 to 3 in this order.
-#[derive(Drop)]
+#[derive(Clone, Copy)]
 pub struct Bench {
     pub shared: Shared,
     pub counts: Counts,
@@ -108,7 +110,7 @@ pub struct Bench {
 }
 
 // What a start answers: its refusal, and the bench to begin with.
-#[derive(Drop)]
+#[derive(Clone, Copy)]
 pub struct Started {
     pub refusal: u32,
     pub bench: Bench,

@@ -7,7 +7,7 @@ use crate::References;
 use crate::parts::reference_at;
 
 // The integers from low to high, both included.
-#[derive(Drop)]
+#[derive(Clone, Copy)]
 pub struct Range {
     pub low: i32,
     pub high: i32,

@@ -2,14 +2,14 @@
 use bench::{Bench, References};
 
 // The answer of a turn, a reading, a send or a refresh.
-#[derive(Drop)]
+#[derive(Clone, Copy)]
 pub struct Answer {
     pub refusal: u32,
     pub bench: Bench,
 }
 
 // The answer of an event: the event acted on, or 32.
-#[derive(Drop)]
+#[derive(Clone, Copy)]
 pub struct EventAnswer {
     pub refusal: u32,
     pub event: u32,
@@ -17,7 +17,7 @@ pub struct EventAnswer {
 }
 
 // What a side shows.
-#[derive(Drop)]
+#[derive(Clone, Copy)]
 pub struct Display {
     pub fd: bool,
     pub lateral: u32,
@@ -28,7 +28,7 @@ pub struct Display {
 }
 
 // The answer of a display. The bench is the one that came.
-#[derive(Drop)]
+#[derive(Clone, Copy)]
 pub struct DisplayAnswer {
     pub refusal: u32,
     pub display: Display,

@@ -1,6 +1,8 @@
 // The calls of the bench. Each takes any bench and any arguments, and answers: an unsound bench is
 // refused with 1 first, then what document 01 names for the call; where a call refuses, its bench
 // stays as it came.
+#![tactic(auto)]
+
 pub mod answers;
 
 ghost use Rattle.std.specs.Prelude.{◌≡◌, cond};

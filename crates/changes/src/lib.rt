@@ -1,5 +1,7 @@
 // What each event does to an On set. The paper's rules are in modes/specs/Events.antt; here they go
 // by the numbers of the laws and by what is armed.
+#![tactic(auto)]
+
 ghost use Rattle.std.specs.Prelude.{◌≡◌, cond};
 ghost use Rattle.modes.specs.declared.ArmedLateral.{ArmedLateral};
 ghost use Rattle.modes.specs.Sets.{PITCH, NAV, LAPPR, HDG, VS, ALT, ALTSEL, VAPPR, clear, engage, with_lateral, with_vertical, with_armed, with_vappr_armed};

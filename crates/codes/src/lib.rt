@@ -1,4 +1,6 @@
 // Set codes: one number, from 0 to 107, for each coherent set; and all of these sets in a list.
+#![tactic(auto)]
+
 ghost use Rattle.std.specs.Prelude.{◌≡◌, map, ◌<◌, get_or};
 ghost use Rattle.codes.specs.Codes.{coded_sets, code_of, set_of};
 ghost use Rattle.codes.specs.Numbers.{lateral_by, armed_by, vertical_by, modes_by};
@@ -11,7 +13,7 @@ use modes::{ArmedLateral, Lateral, ModeSet, Modes, Vertical};
 pub const NO_CODE: u32 = 108;
 
 // The set of a code, if there is one.
-#[derive(Drop)]
+#[derive(Clone, Copy)]
 pub enum Coded {
     Set(ModeSet),
     NoSet,

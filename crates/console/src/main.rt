@@ -1,5 +1,7 @@
 // The console: a script comes in line by line, its commands are done in turn on a bench that starts
 // as power-on's and on a bus area that starts empty, and their answers go out. Nothing is decided here: the calls do that.
+#![tactic(auto)]
+
 mod answers;
 mod messages;
 mod output;
@@ -57,7 +59,7 @@ fn read_piece(input: &mut [u8]) -> usize
 }
 
 // The session after a piece of the script, and how long the piece was.
-#[derive(Drop)]
+#[derive(Clone, Copy)]
 struct Fed {
     session: Session,
     length: usize,

@@ -9,7 +9,7 @@ use bench::parts::reference_at;
 use calls::answers::Display;
 
 // What a panel is drawn from.
-#[derive(Drop)]
+#[derive(Clone, Copy)]
 struct Shown {
     side: u32,
     refusal: u32,

@@ -1,5 +1,7 @@
 // The events by number, and what each does in the first step: to AP, the overspeed flag, PF and the
 // flight directors.
+#![tactic(auto)]
+
 ghost use Rattle.std.specs.Prelude.{◌≡◌};
 ghost use Rattle.modes.specs.Events.{event_at, line_of};
 

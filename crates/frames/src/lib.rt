@@ -1,5 +1,7 @@
 // Frames: what a send copies, as 19 bytes in a bus area. A frame that is written or read is no send: neither call
 // has a bench to give back.
+#![tactic(auto)]
+
 ghost use Rattle.std.specs.Prelude.{◌≡◌, cond, ◌++◌, ◌+◌, ◌≤◌, ◌<◌, ltb, pos, ◌-ℤ◌, length, drop};
 ghost use Rattle.std.specs.Int.Signed.{mag};
 ghost use Rattle.bench.specs.Parts.{reference};
@@ -11,7 +13,7 @@ use codes::Coded;
 
 // What a frame says: the side it is of, and the side's flight director, set and references. All of it is zeros where
 // the frame is refused.
-#[derive(Drop)]
+#[derive(Clone, Copy)]
 pub struct FrameRead {
     pub refusal: u32,
     pub side: u32,

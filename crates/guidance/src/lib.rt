@@ -1,12 +1,14 @@
 // The picker of the guidance program: the two laws that a side's display names. All that it knows
 // of the bench is what the display call promises.
+#![tactic(auto)]
+
 ghost use Rattle.std.specs.Prelude.{◌≡◌};
 ghost use Rattle.guidance.specs.Picker.{picked_of};
 
 use bench::Bench;
 
 // The display's refusal and its two laws, which are 0 where it is refused.
-#[derive(Drop)]
+#[derive(Clone, Copy)]
 pub struct Picked {
     pub refusal: u32,
     pub lateral: u32,

@@ -1,4 +1,6 @@
 // What a turn of each knob does.
+#![tactic(auto)]
+
 ghost use Rattle.std.specs.Prelude.{◌≡◌, ◌<◌, pos, ◌*ℤ◌};
 ghost use Rattle.std.specs.Int.Signed.{mag};
 ghost use Rattle.modes.specs.Sets.{PITCH, ALTSEL, engage, engaged_in, in_on};

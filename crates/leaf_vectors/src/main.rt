@@ -1,5 +1,7 @@
 // Runs the leaves over the floats of patterns.rt and over all pairs of counts, and writes what they
 // answer. The file stdout beside src/ holds what they must answer; tests/vectors made both.
+#![tactic(auto)]
+
 mod patterns;
 
 use libc::STDOUT_FILENO;

@@ -1,9 +1,11 @@
 // Mode sets, the events that change them, and the numbers by which a display shows them.
+#![tactic(auto)]
+
 pub mod numbers;
 pub mod sets;
 
 // The engaged lateral mode.
-#[derive(Drop)]
+#[derive(Clone, Copy)]
 pub enum Lateral {
     Roll,
     Hdg,
@@ -13,7 +15,7 @@ pub enum Lateral {
 }
 
 // The engaged vertical mode. Capture and track are both ALTSEL.
-#[derive(Drop)]
+#[derive(Clone, Copy)]
 pub enum Vertical {
     Pitch,
     Vs,
@@ -26,7 +28,7 @@ pub enum Vertical {
 }
 
 // The armed lateral mode: at most one of two.
-#[derive(Drop)]
+#[derive(Clone, Copy)]
 pub enum ArmedLateral {
     Neither,
     Nav,
@@ -34,7 +36,7 @@ pub enum ArmedLateral {
 }
 
 // An On set. Whether ALTSEL is armed follows from the vertical mode and is not stored.
-#[derive(Drop)]
+#[derive(Clone, Copy)]
 pub struct Modes {
     pub lateral: Lateral,
     pub armed: ArmedLateral,
@@ -42,14 +44,14 @@ pub struct Modes {
     pub vappr_armed: bool,
 }
 
-#[derive(Drop)]
+#[derive(Clone, Copy)]
 pub enum ModeSet {
     Off,
     On(Modes),
 }
 
 // The events in the order of their numbers, 0 to 20, and none.
-#[derive(Drop)]
+#[derive(Clone, Copy)]
 pub enum Event {
     ApDisconnect,
     ApSwitch,

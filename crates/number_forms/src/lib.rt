@@ -1,5 +1,7 @@
 // Two forms of numbers that programs need to read and write them: a float by its bit pattern, and a
 // signed number by its magnitude.
+#![tactic(auto)]
+
 ghost use Rattle.std.specs.Prelude.{◌≡◌, nat_abs};
 ghost use Rattle.std.specs.Float.Ieee.{of_bits};
 ghost use Rattle.std.specs.Float.{binary64};

@@ -1,6 +1,8 @@
 // Numbers as a script writes them. A word is a slice of bytes, and is read as a number, as clicks, as pairs of
 // hexadecimal digits, as a signed number or as a float. specs/Numbers, Pairs, Integers and Values say what
 // is read as what, specs/Examples gives words, and specs/Private has what only the private functions promise.
+#![tactic(auto)]
+
 pub mod answers;
 
 ghost use Rattle.std.specs.Prelude.{◌≡◌, ◌/◌, ◌^◌, ◌<◌, ◌≤◌, true, false, length, pos, neg_ℤ, slice_index};

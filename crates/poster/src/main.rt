@@ -1,5 +1,7 @@
 // The poster: a line for each set code, 0 to 107, with the code, the lateral law, the armed sum and the vertical law. It
 // prints from the list of numbers that `codes` hands out, and reads nothing.
+#![tactic(auto)]
+
 ghost use Rattle.std.specs.Prelude.{◌≡◌};
 ghost use Rattle.codes.specs.Poster.{number_at, lateral_in, armed_sum_in, vertical_in};
 

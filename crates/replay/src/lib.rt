@@ -1,4 +1,6 @@
 // Lists of calls, held as slices of numbers, run through the calls of the bench from any bench, or from a start.
+#![tactic(auto)]
+
 ghost use Rattle.std.specs.Prelude.{◌≡◌};
 ghost use Rattle.calls.specs.Calls.{event, turn, reading, send, refresh, display};
 ghost use Rattle.replay.specs.Coded.{call_of, calls_to, served_by, RanTo, ran_from};
@@ -8,7 +10,7 @@ use bench::{Bench, Reading};
 use calls::answers::Display;
 
 // The answer of the last call besides its bench: a refusal, with the event acted on or what is shown.
-#[derive(Drop)]
+#[derive(Clone, Copy)]
 pub enum LastReply {
     Nothing,
     Done(u32),
@@ -17,14 +19,14 @@ pub enum LastReply {
 }
 
 // The bench after the calls, and the last one's answer.
-#[derive(Drop)]
+#[derive(Clone, Copy)]
 pub struct Served {
     pub bench: Bench,
     pub reply: LastReply,
 }
 
 // What a start and the calls after it answer: the start's refusal, and what the calls left.
-#[derive(Drop)]
+#[derive(Clone, Copy)]
 pub struct Ran {
     pub refusal: u32,
     pub served: Served,

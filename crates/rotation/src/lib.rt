@@ -1,4 +1,6 @@
 // Knob arithmetic: how far a knob was turned, and what that does to a reference.
+#![tactic(auto)]
+
 ghost use Rattle.std.specs.Prelude.{◌≡◌, pos, ◌+ℤ◌, ◌-ℤ◌};
 ghost use Rattle.rotation.specs.Rotation.{rotation_of, clamp_of, mod_of};
 

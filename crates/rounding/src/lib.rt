@@ -1,4 +1,6 @@
 // The whole value of an f64: the integer nearest to its exact value, of two such the even one.
+#![tactic(auto)]
+
 ghost use Rattle.std.specs.Prelude.{◌≡◌, ◌^◌, ◌<◌, ◌≤◌};
 ghost use Rattle.std.specs.Float.Ieee.{of_bits};
 ghost use Rattle.std.specs.Float.{binary64};
@@ -6,7 +8,7 @@ ghost use Rattle.std.specs.Float.Ieee.Nearest.{closest};
 ghost use Rattle.rounding.specs.Whole.{signed_of, in_answer, whole_of};
 
 // What a float rounds to.
-#[derive(Drop)]
+#[derive(Clone, Copy)]
 pub enum Whole {
     // An infinity, or a NaN.
     NotFinite,

@@ -10,7 +10,7 @@ use modes::ModeSet;
 use numerals::answers::{Number, Signed};
 
 // A mode set that four numbers give, if they do.
-#[derive(Drop)]
+#[derive(Clone, Copy)]
 enum Given {
     Is(ModeSet),
     Wrong,

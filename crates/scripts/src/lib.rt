@@ -1,4 +1,6 @@
 // The commands of the console's scripts: what a line asks for.
+#![tactic(auto)]
+
 mod area;
 mod damage;
 mod places;
@@ -16,7 +18,7 @@ use places::{Named, ends_at, name_or_number, number_at, reading_at, side_at};
 
 // A box is a part of the bench with a flight director, a set and references: 0 left, 1 right, 2 the
 // left inbox, 3 the right inbox. A reference goes by its place in the order of a display, from 0.
-#[derive(Drop)]
+#[derive(Clone, Copy)]
 pub enum Command {
     Blank,
     Wrong(u32),

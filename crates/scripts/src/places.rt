@@ -7,7 +7,7 @@ use bench::Reading;
 use numerals::answers::{Number, Value};
 
 // A reading that two words give, or what is wrong with them.
-#[derive(Drop)]
+#[derive(Clone, Copy)]
 pub(crate) enum Named {
     Is(Reading),
     Wrong(u32),

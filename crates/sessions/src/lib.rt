@@ -1,5 +1,7 @@
 // What a script does to a bench and a bus area, from its bytes: lines are put together, and each is carried
 // out on what the one before it left. Nothing is read or written here.
+#![tactic(auto)]
+
 mod effects;
 
 ghost use Rattle.std.specs.Prelude.{◌≡◌, take, slice_set};
@@ -11,7 +13,7 @@ use scripts::Command;
 
 // What is kept from one byte of a script to the next, beside the room for the bytes of the line and the store that the
 // bus area is the beginning of.
-#[derive(Drop)]
+#[derive(Clone, Copy)]
 pub struct Session {
     pub bench: Bench,
     // line ends so far, modulo 2^64
@@ -26,7 +28,7 @@ pub struct Session {
 
 // The session after a byte, and what was asked: the command of a line that ended, with its refusal, the
 // event acted on or 32, and whether a drawing follows. Inside a line it is `Blank`.
-#[derive(Drop)]
+#[derive(Clone, Copy)]
 pub struct Taken {
     pub session: Session,
     pub command: Command,

@@ -5,6 +5,8 @@
 // Arguments, in decimal: a seed; how many calls; a kind of call, 6 for a mixed list, 7 for writes of
 // frames or 8 for reads; and 1, or 0 to make the list and its sum without the calls, which is the time
 // that the calls do not take.
+#![tactic(auto)]
+
 mod bus;
 mod checksum;
 mod list;
@@ -13,7 +15,7 @@ use bench::Bench;
 use libc::STDOUT_FILENO;
 
 // The bench after some calls, and the checksum of their answers.
-#[derive(Drop)]
+#[derive(Clone, Copy)]
 struct Run {
     bench: Bench,
     sum: u64,

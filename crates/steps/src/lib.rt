@@ -1,4 +1,6 @@
 // The three steps of an event, and entry.
+#![tactic(auto)]
+
 ghost use Rattle.std.specs.Prelude.{◌≡◌};
 ghost use Rattle.modes.specs.Events.{line_of};
 ghost use Rattle.bench.specs.Sides.{where_acting};

@@ -1,4 +1,6 @@
 // The words of a line of text: runs of bytes that are no spaces. A word that is not there is empty.
+#![tactic(auto)]
+
 ghost use Rattle.std.specs.Prelude.{◌≡◌};
 ghost use Rattle.words.specs.Words.{is_space, is_of, leading, place_of, up_to, past_spaces, first_word, past_word, word_of, lookup_of};
 
