@@ -21,25 +21,25 @@ use Rattle.modes.proofs.Finite.{at, same_place, both_left, both_right}
 -- ---- types with few values: numbers of laws begin at 1, and an event's number is its place after none
 
 pub back_flags : (x : Bool) → pick false both_flags (flag_number x) ≡ x
-back_flags x = elim x [ false ↦ refl | true ↦ refl ]
+back_flags x = elim x as (λ k. pick false both_flags (flag_number k) ≡ k) [ false ↦ refl | true ↦ refl ]
 
 abbrev pub flags : Finite Bool
 flags = record { first = false; rest = tail both_flags; number = flag_number; place = λ n. n; back = back_flags }
 
 pub back_laterals : (x : Lateral) → pick Lateral.Roll every_lateral (lateral_number x - 1) ≡ x
-back_laterals x = elim x [ Lateral.Roll ↦ refl | Lateral.Hdg ↦ refl | Lateral.Nav ↦ refl | Lateral.Lappr ↦ refl | Lateral.Lga ↦ refl ]
+back_laterals x = elim x as (λ k. pick Lateral.Roll every_lateral (lateral_number k - 1) ≡ k) [ Lateral.Roll ↦ refl | Lateral.Hdg ↦ refl | Lateral.Nav ↦ refl | Lateral.Lappr ↦ refl | Lateral.Lga ↦ refl ]
 
 abbrev pub laterals : Finite Lateral
 laterals = record { first = Lateral.Roll; rest = tail every_lateral; number = lateral_number; place = λ n. n - 1; back = back_laterals }
 
 pub back_armeds : (x : ArmedLateral) → pick ArmedLateral.Neither every_armed (armed_number x) ≡ x
-back_armeds x = elim x [ ArmedLateral.Neither ↦ refl | ArmedLateral.Nav ↦ refl | ArmedLateral.Lappr ↦ refl ]
+back_armeds x = elim x as (λ k. pick ArmedLateral.Neither every_armed (armed_number k) ≡ k) [ ArmedLateral.Neither ↦ refl | ArmedLateral.Nav ↦ refl | ArmedLateral.Lappr ↦ refl ]
 
 abbrev pub armeds : Finite ArmedLateral
 armeds = record { first = ArmedLateral.Neither; rest = tail every_armed; number = armed_number; place = λ n. n; back = back_armeds }
 
 pub back_verticals : (x : Vertical) → pick Vertical.Pitch every_vertical (vertical_number x - 1) ≡ x
-back_verticals x = elim x [ Pitch ↦ refl | Vs ↦ refl | Flc ↦ refl | Alt ↦ refl | AltselCapture ↦ refl | AltselTrack ↦ refl | Vappr ↦ refl | Vga ↦ refl ]
+back_verticals x = elim x as (λ k. pick Vertical.Pitch every_vertical (vertical_number k - 1) ≡ k) [ Pitch ↦ refl | Vs ↦ refl | Flc ↦ refl | Alt ↦ refl | AltselCapture ↦ refl | AltselTrack ↦ refl | Vappr ↦ refl | Vga ↦ refl ]
 
 abbrev pub verticals : Finite Vertical
 verticals = record { first = Vertical.Pitch; rest = tail every_vertical; number = vertical_number; place = λ n. n - 1; back = back_verticals }
