@@ -1,4 +1,4 @@
--- For `lookup`: sameBytes tells whether two lists are equal, and a walk past the names that are not w. Assumes nothing.
+-- For `lookup`: same_bytes tells whether two lists are equal, and a walk past the names that are not w. Assumes nothing.
 use mathlib.Core.Path.{◌≡◌, refl, sym, ◌∙◌}
 use mathlib.Core.Bool.{Bool, true, false, and-eq-true_iff, false≢true}
 use mathlib.Core.List.{List, [], ◌∷◌}
@@ -10,7 +10,7 @@ use borrow.Author.Tests.{eq-eqb, eqb-true}
 use lib.Dec.{eqb}
 use Rattle.words.specs.Words.{same_bytes, word_of, rest, lookup_of}
 
--- ---- sameBytes tells whether two lists are equal
+-- ---- same_bytes tells whether two lists are equal
 
 pub same_refl : (s : List ℕ) → same_bytes s s ≡ true
 same_refl [] = refl
