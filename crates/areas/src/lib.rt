@@ -89,8 +89,8 @@ fn poke_store(start: u64, line: &[u8], store: &mut [u8], n: usize)
 // Writes a frame into such an area, and answers its refusal or 0.
 fn write_store(b: Bench, side: u32, start: u64, store: &mut [u8], n: usize) -> u32
     requires { n ≤ length store.old }
-    ensures fact_1 { result ≡ write_refusal b side start (take n store.old) }
-    ensures fact_2 { store.new ≡ laid_over (area_written b side start (take n store.old)) store.old }
+    ensures answer { result ≡ write_refusal b side start (take n store.old) }
+    ensures new_store { store.new ≡ laid_over (area_written b side start (take n store.old)) store.old }
 {
     frames::write(b, side, &mut store[..n], start as usize)
 }
@@ -124,8 +124,8 @@ fn act_on(
     n: usize,
 ) -> AreaAnswer
     requires { n ≤ length store.old }
-    ensures fact_1 { result ≡ answer_by act command refusal line.now b (take n store.old) }
-    ensures fact_2 { store.new ≡ laid_over (area_by act line.now b (take n store.old)) store.old }
+    ensures answer { result ≡ answer_by act command refusal line.now b (take n store.old) }
+    ensures new_store { store.new ≡ laid_over (area_by act line.now b (take n store.old)) store.old }
 {
     match act {
         AreaAct::Leaves => answer(command, refusal, n),
@@ -161,8 +161,8 @@ pub fn answer_in(
     store: &mut [u8],
     length: usize,
 ) -> AreaAnswer
-    ensures fact_1 { result ≡ area_answer act c refusal line.now b (take length store.old) }
-    ensures fact_2 { store.new ≡ laid_over (area_by act line.now b (take length store.old)) store.old }
+    ensures answer { result ≡ area_answer act c refusal line.now b (take length store.old) }
+    ensures new_store { store.new ≡ laid_over (area_by act line.now b (take length store.old)) store.old }
 {
     let n = least(length, store.len());
     let command = heard(act, c, line, &store[..n]);

@@ -23,9 +23,9 @@ fn feed(
     area: &mut [u8; 2048],
     out: &mut [u8],
 ) -> Session
-    ensures fact_1 { result ≡ (fed start line.old area.old piece.now).session }
-    ensures fact_2 { line.new ≡ (fed start line.old area.old piece.now).room }
-    ensures fact_3 { area.new ≡ (fed start line.old area.old piece.now).store }
+    ensures answer { result ≡ (fed start line.old area.old piece.now).session }
+    ensures new_line { line.new ≡ (fed start line.old area.old piece.now).room }
+    ensures new_area { area.new ≡ (fed start line.old area.old piece.now).store }
 {
     let mut s = start;
     let mut waiting = 0;
@@ -42,8 +42,8 @@ fn feed(
 
 // The script's end: a last line without a line end is carried out, and its answer is written.
 fn finish(s: Session, line: &[u8; 256], area: &mut [u8; 2048], out: &mut [u8]) -> Session
-    ensures fact_1 { result ≡ (script_ended s line.now area.old).session }
-    ensures fact_2 { area.new ≡ store_ended s line.now area.old }
+    ensures answer { result ≡ (script_ended s line.now area.old).session }
+    ensures new_area { area.new ≡ store_ended s line.now area.old }
 {
     let taken = sessions::end_script(s, line, area);
     let waiting = put_answer(out, 0, taken, area);
@@ -73,9 +73,9 @@ fn take_piece(
     area: &mut [u8; 2048],
     out: &mut [u8],
 ) -> Fed
-    ensures fact_1 { result.session ≡ (fed s line.old area.old (take result.length input.new)).session }
-    ensures fact_2 { line.new ≡ (fed s line.old area.old (take result.length input.new)).room }
-    ensures fact_3 { area.new ≡ (fed s line.old area.old (take result.length input.new)).store }
+    ensures answer { result.session ≡ (fed s line.old area.old (take result.length input.new)).session }
+    ensures new_line { line.new ≡ (fed s line.old area.old (take result.length input.new)).room }
+    ensures new_area { area.new ≡ (fed s line.old area.old (take result.length input.new)).store }
 {
     let length = read_piece(input);
     let session = feed(s, &input[0..length], line, area, out);

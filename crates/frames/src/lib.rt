@@ -98,8 +98,8 @@ fn frame_bytes(side: u32, c: Channel) -> [u8; 19]
 // Puts the frame of a channel at the beginning of a part of the area, if it has room; the refusal.
 fn write_frame(part: &mut [u8], side: u32, c: Channel) -> u32
     requires { side < 256 }
-    ensures fact_1 { result ≡ cond (ltb (length part.old) 19) 7 0 }
-    ensures fact_2 { part.new ≡ cond (ltb (length part.old) 19) part.old (frame_of side c ++ drop 19 part.old) }
+    ensures answer { result ≡ cond (ltb (length part.old) 19) 7 0 }
+    ensures new_part { part.new ≡ cond (ltb (length part.old) 19) part.old (frame_of side c ++ drop 19 part.old) }
 {
     if part.len() < 19 {
         return NO_ROOM;
@@ -111,8 +111,8 @@ fn write_frame(part: &mut [u8], side: u32, c: Channel) -> u32
 
 // Writes the frame of a side of the bench into the area, from a start on, and answers its refusal or 0.
 pub fn write(b: Bench, side: u32, area: &mut [u8], start: usize) -> u32
-    ensures fact_1 { result ≡ write_refusal b side start area.old }
-    ensures fact_2 { area.new ≡ area_written b side start area.old }
+    ensures answer { result ≡ write_refusal b side start area.old }
+    ensures new_area { area.new ≡ area_written b side start area.old }
 {
     if !bench::is_sound(b) {
         return UNSOUND;
@@ -131,8 +131,8 @@ pub fn write(b: Bench, side: u32, area: &mut [u8], start: usize) -> u32
 
 // n - by.
 fn lowered(n: u32, by: i32) -> i32
-    requires fact_1 { n < 65536 }
-    requires fact_2 { mag by < 65536 }
+    requires small { n < 65536 }
+    requires small_by { mag by < 65536 }
     ensures { result ≡ pos n -ℤ by }
 {
     n as i32 - by
@@ -140,8 +140,8 @@ fn lowered(n: u32, by: i32) -> i32
 
 // The number of one byte, less what a frame adds to it.
 fn one_byte(part: &[u8], at: usize, by: i32) -> i32
-    requires fact_1 { at < length part.now }
-    requires fact_2 { mag by < 65536 }
+    requires inside { at < length part.now }
+    requires small_by { mag by < 65536 }
     ensures { result ≡ one_byte part.now at by }
 {
     lowered(part[at] as u32, by)
@@ -149,8 +149,8 @@ fn one_byte(part: &[u8], at: usize, by: i32) -> i32
 
 // The number of two bytes, the high one first, less what a frame adds to it.
 fn two_bytes(part: &[u8], at: usize, by: i32) -> i32
-    requires fact_1 { at + 1 < length part.now }
-    requires fact_2 { mag by < 65536 }
+    requires inside { at + 1 < length part.now }
+    requires small_by { mag by < 65536 }
     ensures { result ≡ two_bytes part.now at by }
 {
     let high = part[at] as u32;

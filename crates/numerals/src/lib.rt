@@ -285,8 +285,8 @@ fn power_of_ten(k: usize) -> u64
 
 // The float nearest to n / 10^k. Both are below 2^53 and so exact, and a division rounds once.
 fn quotient(n: u64, k: usize) -> f64
-    requires fact_1 { n ≤ 999999999999999 }
-    requires fact_2 { k ≤ 15 }
+    requires few_digits { n ≤ 999999999999999 }
+    requires few_places { k ≤ 15 }
     ensures { result ≡ round binary64 false n (10 ^ k) }
 {
     let above = std::num::nearest_u64_to_f64(n);

@@ -70,8 +70,8 @@ pub fn area_of(s: Session, area: &[u8; 2048]) -> &[u8]
 
 // The session after a line that asks for a command: the line is counted, and the next one begins.
 fn carry_out(s: Session, command: Command, text: &[u8], store: &mut [u8]) -> Taken
-    ensures fact_1 { result ≡ carried_out s text.now command store.old }
-    ensures fact_2 { store.new ≡ store_carried s text.now command store.old }
+    ensures answer { result ≡ carried_out s text.now command store.old }
+    ensures new_store { store.new ≡ store_carried s text.now command store.old }
 {
     let b = s.bench;
     let lines = std::num::wrapping_add_u64(s.lines, 1);
@@ -109,8 +109,8 @@ fn command_of_line(line: &[u8], n: usize) -> Command
 
 // Carries out the line that the room holds.
 fn end_line(s: Session, line: &[u8], store: &mut [u8]) -> Taken
-    ensures fact_1 { result ≡ carried_out s (line_text s line.now) (line_command s.length line.now) store.old }
-    ensures fact_2 { store.new ≡ store_carried s (line_text s line.now) (line_command s.length line.now) store.old }
+    ensures answer { result ≡ carried_out s (line_text s line.now) (line_command s.length line.now) store.old }
+    ensures new_store { store.new ≡ store_carried s (line_text s line.now) (line_command s.length line.now) store.old }
 {
     let command = command_of_line(line, s.length);
     carry_out(s, command, first(line, s.length), store)
@@ -119,8 +119,8 @@ fn end_line(s: Session, line: &[u8], store: &mut [u8]) -> Taken
 // Keeps one byte more of a line of n bytes, and answers how many it has then; a byte that has no room
 // is dropped.
 fn keep(line: &mut [u8], n: usize, byte: u8) -> usize
-    ensures fact_1 { result ≡ kept_of_one_more n line.old }
-    ensures fact_2 { line.new ≡ slice_set line.old n byte }
+    ensures answer { result ≡ kept_of_one_more n line.old }
+    ensures new_line { line.new ≡ slice_set line.old n byte }
 {
     if n < line.len() {
         line[n] = byte;
@@ -146,9 +146,9 @@ fn go_on(s: Session, length: usize) -> Taken
 
 // One byte more of the script.
 pub fn take_byte(s: Session, byte: u8, line: &mut [u8; 256], area: &mut [u8; 2048]) -> Taken
-    ensures fact_1 { result ≡ byte_taken s line.old area.old byte }
-    ensures fact_2 { line.new ≡ room_after s line.old byte }
-    ensures fact_3 { area.new ≡ store_after s line.old area.old byte }
+    ensures answer { result ≡ byte_taken s line.old area.old byte }
+    ensures new_line { line.new ≡ room_after s line.old byte }
+    ensures new_area { area.new ≡ store_after s line.old area.old byte }
 {
     if byte == b'\n' {
         return end_line(s, line, area);
@@ -158,8 +158,8 @@ pub fn take_byte(s: Session, byte: u8, line: &mut [u8; 256], area: &mut [u8; 204
 
 // The script's end. A last line without a line end is carried out.
 pub fn end_script(s: Session, line: &[u8; 256], area: &mut [u8; 2048]) -> Taken
-    ensures fact_1 { result ≡ script_ended s line.now area.old }
-    ensures fact_2 { area.new ≡ store_ended s line.now area.old }
+    ensures answer { result ≡ script_ended s line.now area.old }
+    ensures new_area { area.new ≡ store_ended s line.now area.old }
 {
     if s.length == 0 {
         return go_on(s, 0);
