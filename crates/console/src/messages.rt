@@ -104,7 +104,7 @@ fn put_reason(out: &mut [u8], waiting: usize, wrong: u32) -> usize {
             out,
             waiting,
             b"no such command; there are event, press, signal, turn, knob, reading, send, refresh, \
-display, pick, power_on_at_120, start, bench, panel, watch, help, damage, area, poke, write, read and bytes",
+display, pick, power-on, start, bench, panel, watch, help, damage, area, poke, write, read and bytes",
         ),
         scripts::TOO_MANY => put_text(
             out,
@@ -120,8 +120,8 @@ flc, alt or independent",
         scripts::NO_SIGNAL => put_text(
             out,
             waiting,
-            b"SIGNAL is overspeed-begins, overspeed-ends, source-changed, nav_captured, lappr_captured, \
-vappr_captured, altsel_captured or altsel-on-track",
+            b"SIGNAL is overspeed-begins, overspeed-ends, source-changed, nav-captured, lappr-captured, \
+vappr-captured, altsel-captured or altsel-on-track",
         ),
         scripts::NO_WATCH => put_text(out, waiting, b"watch takes on or off"),
         _ => put_number_reason(out, waiting, wrong),
@@ -145,12 +145,12 @@ pub(crate) fn put_help(out: &mut [u8], waiting: usize) -> usize {
         b"help\n\
 press SWITCH        ap-disconnect ap go-around transfer fd-left fd-right hdg nav appr vs flc alt \
 independent\n\
-signal SIGNAL       overspeed-begins overspeed-ends source-changed nav_captured lappr_captured vappr_captured \
-altsel_captured altsel-on-track\n\
+signal SIGNAL       overspeed-begins overspeed-ends source-changed nav-captured lappr-captured vappr-captured \
+altsel-captured altsel-on-track\n\
 event WORD          the same by a word of bits, of which the lowest decides: bit 14, word 16384, is hdg\n\
 knob KNOB CLICKS    wheel altitude speed heading, by -128 to 127 clicks\n\
 turn KNOB COUNT     the same by the knob's new count, 0 to 255\n\
-reading KIND VALUE  altitude airspeed vertical_speed roll pitch heading; a number such as -12.5\n\
+reading KIND VALUE  altitude airspeed vertical-speed roll pitch heading; a number such as -12.5\n\
 send SIDE           left or right: its flight director, modes and targets go to the other side's inbox\n\
 refresh SIDE        the passive side takes modes and targets from its inbox; the active one looks if it is On\n\
 display SIDE        what a side shows, in numbers\n\
@@ -158,7 +158,7 @@ pick SIDE           the lateral and the vertical law of a side\n\
 panel               both sides drawn\n\
 watch on            draw them after each command that can change the bench; watch off ends it\n\
 bench               all that the bench holds, in numbers\n\
-power_on_at_120            begin anew, at 120 knots\n\
+power-on            begin anew, at 120 knots\n\
 start SPEED         begin anew at 60 to 400 knots; at any other number it is refused, and the speed is 120\n\
 damage ...          write into the bench past all rules: the manual, section 5\n\
 area LENGTH         a bus area of 0 to 2048 bytes, all 0, in place of the one before\n\

@@ -203,7 +203,7 @@ fn event_named(text: &[u8]) -> usize
 {
     let names =
         b"ap-disconnect ap overspeed-begins overspeed-ends go-around transfer fd-left fd-right \
-        source-changed nav_captured lappr_captured vappr_captured altsel_captured altsel-on-track \
+        source-changed nav-captured lappr-captured vappr-captured altsel-captured altsel-on-track \
         hdg nav appr vs flc alt independent";
     words::lookup(words::word(text, 1), names, 21)
 }
@@ -315,7 +315,7 @@ fn command_in(text: &[u8]) -> Command
     ensures { result ≡ command_in text.now }
 {
     let names =
-        b"event send refresh display pick turn knob reading press signal power_on_at_120 bench panel help \
+        b"event send refresh display pick turn knob reading press signal power-on bench panel help \
         watch damage area poke write read bytes start";
     let name = words::word(text, 0);
     if name.len() == 0 {
