@@ -7,7 +7,7 @@ use native.Mathlib.Omega.{arith}
 use borrow.Author.Tests.{eq-eqb, ne_eqb, lt-leb}
 use lib.Dec.{T, leb, eqb}
 use lib.Pow.{pow-add, pow_pos, pow_mono, shl_lt}
-use lib.Ieee.{Float, nan, inf, fin, binary64, up, down, odd, of_fields, of_bits, to_bits, fits, is_nan, ne}
+use lib.Ieee.{Float, nan, inf, fin, binary64, up, down, of_fields, of_bits, to_bits, fits, is_nan, ne}
 use lib.Ieee.Fits.{down_pos}
 use lib.Ieee.Bits.{of_bits-to_bits}
 use lib.Ieee.Compare.{differs_from_itself}
