@@ -8,7 +8,7 @@ use native.Mathlib.Omega.{arith}
 use borrow.Author.Tests.{leb-true, le-leb}
 use lib.Dec.{leb}
 use lib.IntN.{ℤ, pos, negsuc}
-use lib.Ieee.{Float, fin, binary64, up, of_bits, of_int}
+use lib.Ieee.{Float, nan, inf, fin, binary64, up, of_bits, of_int}
 use lib.Ieee.Exact.{HasValue}
 use lib.Ieee.Back.{round_whole}
 use Rattle.rounding.specs.declared.Whole.{Whole}
@@ -34,6 +34,8 @@ unfolding of_int
 exact n h = round_whole binary64 false n (omega arith)
 
 whole_of_lem : (x : Float) (n : ℕ) → HasValue x false n 1 → whole_of x ≡ in_answer (pos n)
+whole_of_lem nan n h = elim h [ ]
+whole_of_lem (inf s) n h = elim h [ ]
 whole_of_lem (fin s m e) n (sign, value) = ap (λ (s : Bool). whole_of (fin s m e)) sign ∙ whole_exact false m e n (sym (mul-one (m * up e)) ∙ value)
 
 -- so the reading is accepted, and the speed is its whole value

@@ -40,6 +40,7 @@ fn wrap(r: Reading, v: i32) -> i32
 }
 
 // The whole value of a reading: the one place for it, for judging and for what is kept.
+#[tactic(auto, unfolding(crate::specs::Readings::whole_reading))]
 pub fn whole_reading(r: Reading) -> Whole
     ensures { result ≡ whole_reading r }
 {

@@ -119,6 +119,7 @@ pub struct Started {
 // The starting speed of the default bench, in knots.
 const DEFAULT_SPEED: i32 = 120;
 
+#[tactic(auto, unfolding(crate::specs::Holds::start_channel))]
 fn start_channel(speed: i32) -> Channel
     ensures { result ≡ start_channel speed }
 {
@@ -157,6 +158,7 @@ fn start_wholes(speed: i32) -> Wholes
 }
 
 // The bench that a starting speed makes, whether or not a start accepts it.
+#[tactic(auto, unfolding(crate::specs::Holds::bench_at))]
 fn bench_at(speed: i32) -> Bench
     ensures { result ≡ bench_at speed }
 {
@@ -187,6 +189,7 @@ fn bench_at(speed: i32) -> Bench
 }
 
 // The bench at power-on, which is the default one.
+#[tactic(auto, unfolding(crate::specs::Holds::power_on))]
 pub fn power_on() -> Bench
     ensures { result ≡ power_on }
 {
@@ -194,6 +197,7 @@ pub fn power_on() -> Bench
 }
 
 // A start at a speed in knots; one that is refused gives the default bench.
+#[tactic(auto, unfolding(crate::specs::Holds::started, crate::specs::Holds::power_on))]
 pub fn start(speed: i32) -> Started
     ensures { result ≡ started speed }
 {
@@ -216,6 +220,7 @@ pub fn other_side(side: u32) -> u32
 }
 
 // Whether a side acts in a call.
+#[tactic(auto, unfolding(crate::specs::Sides::acts))]
 pub fn side_acts(b: Bench, side: u32) -> bool
     ensures { result ≡ acts b side }
 {
@@ -224,6 +229,7 @@ pub fn side_acts(b: Bench, side: u32) -> bool
 }
 
 // Whether both sides have LAPPR and VAPPR engaged.
+#[tactic(auto, unfolding(crate::specs::Independent::both_approach))]
 pub fn both_approach(b: Bench) -> bool
     ensures { result ≡ both_approach b }
 {
@@ -235,6 +241,7 @@ pub fn both_approach(b: Bench) -> bool
 }
 
 // Whether independent operation is off, or both sides have what it needs.
+#[tactic(auto, unfolding(crate::specs::Independent::independent_sound))]
 fn independent_sound(b: Bench) -> bool
     ensures { result ≡ independent_sound b }
 {
@@ -244,6 +251,7 @@ fn independent_sound(b: Bench) -> bool
 }
 
 // Whether each reference is in its range.
+#[tactic(auto, unfolding(crate::specs::Sound::references_sound))]
 pub fn references_sound(r: References) -> bool
     ensures { result ≡ references_sound r }
 {
@@ -257,6 +265,7 @@ pub fn references_sound(r: References) -> bool
     heading & preselected & held & vertical_speed & ias & roll & pitch
 }
 
+#[tactic(auto, unfolding(crate::specs::Sound::channel_sound))]
 fn box_sound(b: Bench, number: u32) -> bool
     ensures { result ≡ channel_sound (box number b) }
 {
@@ -275,6 +284,7 @@ fn is_same(x: i32, y: i32) -> bool
 }
 
 // Whether a reading would be accepted whose kind has this range, and its whole value is the one kept.
+#[tactic(auto, unfolding(crate::specs::Readings::whole_number))]
 fn is_kept(range: Range, r: Reading, kept: i32) -> bool
     ensures { result ≡ (eqb (judged range (whole_reading r)) 0 && same (whole_number r) kept) }
 {
@@ -284,6 +294,7 @@ fn is_kept(range: Range, r: Reading, kept: i32) -> bool
     (refusal == 0) & is_same(number, kept)
 }
 
+#[tactic(auto, unfolding(crate::specs::Sound::readings_sound, crate::specs::Readings::refusal_of))]
 fn readings_sound(w: Readings, k: Wholes) -> bool
     ensures { result ≡ readings_sound w k }
 {
@@ -301,6 +312,7 @@ fn readings_sound(w: Readings, k: Wholes) -> bool
 }
 
 // Whether no condition of refusal 1 holds.
+#[tactic(auto, unfolding(crate::specs::Sound::sound))]
 pub fn is_sound(b: Bench) -> bool
     ensures { result ≡ sound b }
 {

@@ -23,6 +23,7 @@ pub const ROLL: u32 = 5;
 
 pub const PITCH: u32 = 6;
 
+#[tactic(auto, unfolding(crate::specs::Parts::with_shared))]
 pub fn with_shared(b: Bench, shared: Shared) -> Bench
     ensures { result ≡ with_shared shared b }
 {
@@ -31,6 +32,7 @@ pub fn with_shared(b: Bench, shared: Shared) -> Bench
     next
 }
 
+#[tactic(auto, unfolding(crate::specs::Parts::with_counts))]
 pub fn with_counts(b: Bench, counts: Counts) -> Bench
     ensures { result ≡ with_counts counts b }
 {
@@ -39,6 +41,7 @@ pub fn with_counts(b: Bench, counts: Counts) -> Bench
     next
 }
 
+#[tactic(auto, unfolding(crate::specs::Parts::with_readings))]
 pub fn with_readings(b: Bench, readings: Readings) -> Bench
     ensures { result ≡ with_readings readings b }
 {
@@ -47,6 +50,7 @@ pub fn with_readings(b: Bench, readings: Readings) -> Bench
     next
 }
 
+#[tactic(auto, unfolding(crate::specs::Parts::with_wholes))]
 pub fn with_wholes(b: Bench, wholes: Wholes) -> Bench
     ensures { result ≡ with_wholes wholes b }
 {
@@ -72,6 +76,7 @@ pub fn box_of(b: Bench, number: u32) -> Channel
 }
 
 // The bench with another channel in a box; past box 3 there is none to replace.
+#[tactic(auto, unfolding(crate::specs::Parts::with_box))]
 pub fn with_box(b: Bench, number: u32, c: Channel) -> Bench
     ensures { result ≡ with_box number c b }
 {
@@ -104,6 +109,7 @@ pub fn inbox_of(side: u32) -> u32
     }
 }
 
+#[tactic(auto, unfolding(crate::specs::Parts::with_fd))]
 pub fn with_fd(c: Channel, fd: bool) -> Channel
     ensures { result ≡ with_fd fd c }
 {
@@ -112,6 +118,7 @@ pub fn with_fd(c: Channel, fd: bool) -> Channel
     next
 }
 
+#[tactic(auto, unfolding(crate::specs::Parts::with_set))]
 pub fn with_set(c: Channel, set: ModeSet) -> Channel
     ensures { result ≡ with_set set c }
 {
@@ -123,6 +130,7 @@ pub fn with_set(c: Channel, set: ModeSet) -> Channel
     }
 }
 
+#[tactic(auto, unfolding(crate::specs::Parts::with_references))]
 pub fn with_references(c: Channel, references: References) -> Channel
     ensures { result ≡ with_references references c }
 {
@@ -140,6 +148,7 @@ pub fn with_pf(s: Shared, pf: u32) -> Shared
 }
 
 // The bench with independent operation on or off.
+#[tactic(auto, unfolding(crate::specs::Independent::with_operation))]
 pub fn with_operation(b: Bench, on: bool) -> Bench
     ensures { result ≡ with_operation on b }
 {
@@ -164,6 +173,7 @@ pub fn reference_at(r: References, place: u32) -> i32
 }
 
 // The references with another number at a place; past place 6 there is none to replace.
+#[tactic(auto, unfolding(crate::specs::Parts::with_reference))]
 pub fn with_reference(r: References, place: u32, x: i32) -> References
     ensures { result ≡ with_reference place x r }
 {
@@ -221,6 +231,7 @@ pub fn count_of(c: Counts, knob: u32) -> u8
     }
 }
 
+#[tactic(auto, unfolding(crate::specs::Parts::with_count))]
 pub fn with_count(c: Counts, knob: u32, n: u8) -> Counts
     ensures { result ≡ with_count knob n c }
 {
@@ -244,6 +255,7 @@ pub fn with_count(c: Counts, knob: u32, n: u8) -> Counts
 }
 
 // The whole values with another number for a kind; past kind 5 there is none to replace.
+#[tactic(auto, unfolding(crate::specs::Parts::with_whole))]
 pub fn with_whole(w: Wholes, kind: u32, x: i32) -> Wholes
     ensures { result ≡ with_whole kind x w }
 {

@@ -39,6 +39,7 @@ pub const HEADING: Range = Range { low: 0, high: 359 };
 pub const STARTING_SPEED: Range = Range { low: 60, high: 400 };
 
 // The range of the reference at a place.
+#[tactic(auto, unfolding(crate::specs::Ranges::reference_range))]
 pub fn reference_range(place: u32) -> Range
     ensures { result ≡ reference_range place }
 {
