@@ -18,7 +18,7 @@ use Rattle.bench.specs.declared.Reading.{Reading}
 use Rattle.bench.specs.declared.Bench.{Bench}
 use Rattle.bench.specs.declared.Started.{Started}
 use Rattle.bench.specs.Parts.{with_reference}
-use Rattle.bench.specs.Ranges.{within, reading_range, reference_range}
+use Rattle.bench.specs.Ranges.{within, reference_range}
 use Rattle.bench.specs.Readings.{of_kind, whole_reading, refusal_of, whole_number}
 use Rattle.bench.specs.Independent.{independent_sound}
 use Rattle.bench.specs.Sound.{kept, references_sound, channel_sound, readings_sound, sound}
