@@ -1,7 +1,8 @@
 // The answer lines. Each function takes how many bytes of the output wait, and answers how many wait then.
 use crate::messages::{put_error, put_help};
 use crate::output::{
-    put, put_next, put_next_flag, put_next_float, put_next_signed, put_nth, put_pairs, put_text,
+    Outlet, put, put_next, put_next_flag, put_next_float, put_next_signed, put_nth, put_pairs,
+    put_text,
 };
 use crate::panel::put_panel;
 use bench::parts::{box_of, reference_at};
@@ -12,14 +13,14 @@ use modes::{ModeSet, Modes};
 use scripts::Command;
 use sessions::Taken;
 
-fn put_event(out: &mut [u8], waiting: usize, refusal: u32, event: u32) -> usize {
+fn put_event(out: &mut Outlet, waiting: usize, refusal: u32, event: u32) -> usize {
     let at = put_text(out, waiting, b"event");
     let next = put_next(out, at, refusal);
     let end = put_next(out, next, event);
     put(out, end, b'\n')
 }
 
-fn put_pick(out: &mut [u8], waiting: usize, p: Picked) -> usize {
+fn put_pick(out: &mut Outlet, waiting: usize, p: Picked) -> usize {
     let mut at = put_text(out, waiting, b"pick");
     at = put_next(out, at, p.refusal);
     at = put_next(out, at, p.lateral);
@@ -27,7 +28,7 @@ fn put_pick(out: &mut [u8], waiting: usize, p: Picked) -> usize {
     put(out, at, b'\n')
 }
 
-fn put_references(out: &mut [u8], waiting: usize, r: References) -> usize {
+fn put_references(out: &mut Outlet, waiting: usize, r: References) -> usize {
     let mut at = waiting;
     let mut place = 0;
     while place < 7 {
@@ -37,7 +38,7 @@ fn put_references(out: &mut [u8], waiting: usize, r: References) -> usize {
     at
 }
 
-fn put_display(out: &mut [u8], waiting: usize, refusal: u32, d: Display) -> usize {
+fn put_display(out: &mut Outlet, waiting: usize, refusal: u32, d: Display) -> usize {
     let references = d.references;
     let mut at = put_text(out, waiting, b"display");
     at = put_next(out, at, refusal);
@@ -51,13 +52,13 @@ fn put_display(out: &mut [u8], waiting: usize, refusal: u32, d: Display) -> usiz
 }
 
 // What a side shows.
-fn put_side(out: &mut [u8], waiting: usize, b: Bench, side: u32) -> usize {
+fn put_side(out: &mut Outlet, waiting: usize, b: Bench, side: u32) -> usize {
     let a = calls::display(b, side);
     let d = a.display;
     put_display(out, waiting, a.refusal, d)
 }
 
-fn put_modes(out: &mut [u8], waiting: usize, m: Modes) -> usize {
+fn put_modes(out: &mut Outlet, waiting: usize, m: Modes) -> usize {
     let lateral = m.lateral;
     let armed = m.armed;
     let vertical = m.vertical;
@@ -67,14 +68,14 @@ fn put_modes(out: &mut [u8], waiting: usize, m: Modes) -> usize {
     put_next_flag(out, at, m.vappr_armed)
 }
 
-fn put_set(out: &mut [u8], waiting: usize, s: ModeSet) -> usize {
+fn put_set(out: &mut Outlet, waiting: usize, s: ModeSet) -> usize {
     match s {
         ModeSet::Off => put_text(out, waiting, b" 0 0 0 0"),
         ModeSet::On(m) => put_modes(out, waiting, m),
     }
 }
 
-fn put_channel(out: &mut [u8], waiting: usize, c: Channel) -> usize {
+fn put_channel(out: &mut Outlet, waiting: usize, c: Channel) -> usize {
     let set = c.set;
     let references = c.references;
     let mut at = put_next_flag(out, waiting, c.fd);
@@ -82,14 +83,14 @@ fn put_channel(out: &mut [u8], waiting: usize, c: Channel) -> usize {
     put_references(out, at, references)
 }
 
-fn put_counts(out: &mut [u8], waiting: usize, c: Counts) -> usize {
+fn put_counts(out: &mut Outlet, waiting: usize, c: Counts) -> usize {
     let mut at = put_next(out, waiting, c.wheel as u32);
     at = put_next(out, at, c.altitude as u32);
     at = put_next(out, at, c.speed as u32);
     put_next(out, at, c.heading as u32)
 }
 
-fn put_readings(out: &mut [u8], waiting: usize, r: Readings) -> usize {
+fn put_readings(out: &mut Outlet, waiting: usize, r: Readings) -> usize {
     let mut at = put_next_float(out, waiting, r.altitude);
     at = put_next_float(out, at, r.airspeed);
     at = put_next_float(out, at, r.vertical_speed);
@@ -98,33 +99,33 @@ fn put_readings(out: &mut [u8], waiting: usize, r: Readings) -> usize {
     put_next_float(out, at, r.heading)
 }
 
-fn put_three(out: &mut [u8], waiting: usize, x: i32, y: i32, z: i32) -> usize {
+fn put_three(out: &mut Outlet, waiting: usize, x: i32, y: i32, z: i32) -> usize {
     let mut at = put_next_signed(out, waiting, x);
     at = put_next_signed(out, at, y);
     put_next_signed(out, at, z)
 }
 
-fn put_wholes(out: &mut [u8], waiting: usize, k: Wholes) -> usize {
+fn put_wholes(out: &mut Outlet, waiting: usize, k: Wholes) -> usize {
     let at = put_three(out, waiting, k.altitude, k.airspeed, k.vertical_speed);
     put_three(out, at, k.roll, k.pitch, k.heading)
 }
 
 // The sides and their inboxes.
-fn put_boxes(out: &mut [u8], waiting: usize, b: Bench) -> usize {
+fn put_boxes(out: &mut Outlet, waiting: usize, b: Bench) -> usize {
     let mut at = put_channel(out, waiting, box_of(b, 0));
     at = put_channel(out, at, box_of(b, 1));
     at = put_channel(out, at, box_of(b, 2));
     put_channel(out, at, box_of(b, 3))
 }
 
-fn put_shared(out: &mut [u8], waiting: usize, s: Shared) -> usize {
+fn put_shared(out: &mut Outlet, waiting: usize, s: Shared) -> usize {
     let mut at = put_next(out, waiting, s.pf);
     at = put_next_flag(out, at, s.ap);
     at = put_next_flag(out, at, s.overspeed);
     put_next_flag(out, at, s.independent)
 }
 
-fn put_bench(out: &mut [u8], waiting: usize, b: Bench) -> usize {
+fn put_bench(out: &mut Outlet, waiting: usize, b: Bench) -> usize {
     let shared = b.shared;
     let counts = b.counts;
     let readings = b.readings;
@@ -156,7 +157,7 @@ fn name_of(c: Command) -> usize {
     }
 }
 
-fn put_refusal(out: &mut [u8], waiting: usize, c: Command, refusal: u32) -> usize {
+fn put_refusal(out: &mut Outlet, waiting: usize, c: Command, refusal: u32) -> usize {
     let names = b"send refresh turn reading power-on watch damage area poke write start";
     let at = put_nth(out, waiting, names, name_of(c), 0);
     let end = put_next(out, at, refusal);
@@ -164,7 +165,7 @@ fn put_refusal(out: &mut [u8], waiting: usize, c: Command, refusal: u32) -> usiz
 }
 
 // What a frame in the area says.
-fn put_read(out: &mut [u8], waiting: usize, area: &[u8], start: u64) -> usize {
+fn put_read(out: &mut Outlet, waiting: usize, area: &[u8], start: u64) -> usize {
     let f = frames::read(area, start as usize);
     let channel = f.channel;
     let mut at = put_text(out, waiting, b"read");
@@ -175,7 +176,7 @@ fn put_read(out: &mut [u8], waiting: usize, area: &[u8], start: u64) -> usize {
 }
 
 // The bytes of the area; an empty one has not even a space.
-fn put_bytes(out: &mut [u8], waiting: usize, area: &[u8]) -> usize {
+fn put_bytes(out: &mut Outlet, waiting: usize, area: &[u8]) -> usize {
     let at = put_text(out, waiting, b"bytes");
     if area.len() == 0 {
         return put(out, at, b'\n');
@@ -186,7 +187,7 @@ fn put_bytes(out: &mut [u8], waiting: usize, area: &[u8]) -> usize {
 }
 
 // The answer to what was asked, in a line of its own or more.
-fn put_reply(out: &mut [u8], waiting: usize, t: Taken, area: &[u8; 2048]) -> usize {
+fn put_reply(out: &mut Outlet, waiting: usize, t: Taken, area: &[u8; 2048]) -> usize {
     let session = t.session;
     let command = t.command;
     let b = session.bench;
@@ -206,7 +207,7 @@ fn put_reply(out: &mut [u8], waiting: usize, t: Taken, area: &[u8; 2048]) -> usi
 }
 
 // The answer, and the drawing that follows it while the watch is on.
-pub(crate) fn put_answer(out: &mut [u8], waiting: usize, t: Taken, area: &[u8; 2048]) -> usize {
+pub(crate) fn put_answer(out: &mut Outlet, waiting: usize, t: Taken, area: &[u8; 2048]) -> usize {
     let at = put_reply(out, waiting, t, area);
     if t.drawn {
         let session = t.session;

@@ -11,9 +11,9 @@ ghost use Rattle.std.specs.Prelude.{◌≡◌, ◌≤◌, length, take};
 ghost use Rattle.sessions.specs.Sessions.{script_ended, store_ended, fed};
 
 use answers::put_answer;
-use libc::STDIN_FILENO;
-use output::flush;
+use output::{Outlet, flush};
 use sessions::Session;
+use std::io::{Error, Read, Stdin};
 
 // A piece of the script is carried out, and its answers are written.
 fn feed(
@@ -21,7 +21,7 @@ fn feed(
     piece: &[u8],
     line: &mut [u8; 256],
     area: &mut [u8; 2048],
-    out: &mut [u8],
+    out: &mut Outlet,
 ) -> Session
     ensures answer { result ≡ (fed start line.old area.old piece.now).session }
     ensures new_line { line.new ≡ (fed start line.old area.old piece.now).room }
@@ -41,7 +41,7 @@ fn feed(
 }
 
 // The script's end: a last line without a line end is carried out, and its answer is written.
-fn finish(s: Session, line: &[u8; 256], area: &mut [u8; 2048], out: &mut [u8]) -> Session
+fn finish(s: Session, line: &[u8; 256], area: &mut [u8; 2048], out: &mut Outlet) -> Session
     ensures answer { result ≡ (script_ended s line.now area.old).session }
     ensures new_area { area.new ≡ store_ended s line.now area.old }
 {
@@ -51,11 +51,14 @@ fn finish(s: Session, line: &[u8; 256], area: &mut [u8; 2048], out: &mut [u8]) -
     taken.session
 }
 
-// Reads a piece of the script, and answers how long it is.
-fn read_piece(input: &mut [u8]) -> usize
+// Reads a piece of the script, and answers how long it is. A read that fails counts as the script's end.
+fn read_piece(script: &mut Stdin, input: &mut [u8]) -> usize
     ensures { result ≤ length input.new }
 {
-    io::count(libc::read(STDIN_FILENO, input), input)
+    match script.read(input) {
+        Ok(length) => length,
+        Err(_) => 0,
+    }
 }
 
 // The session after a piece of the script, and how long the piece was.
@@ -67,40 +70,42 @@ struct Fed {
 
 // Reads a piece of the script and carries it out.
 fn take_piece(
+    script: &mut Stdin,
     s: Session,
     input: &mut [u8],
     line: &mut [u8; 256],
     area: &mut [u8; 2048],
-    out: &mut [u8],
+    out: &mut Outlet,
 ) -> Fed
     ensures answer { result.session ≡ (fed s line.old area.old (take result.length input.new)).session }
     ensures new_line { line.new ≡ (fed s line.old area.old (take result.length input.new)).room }
     ensures new_area { area.new ≡ (fed s line.old area.old (take result.length input.new)).store }
 {
-    let length = read_piece(input);
+    let length = read_piece(script, input);
     let session = feed(s, &input[0..length], line, area, out);
     Fed { session, length }
 }
 
-// An empty piece is the script's end.
-fn main() {
+// An empty piece is the script's end. A write that failed ends the program with its error.
+fn main(rt: HostRuntime) -> Result<(), Error> {
+    let mut script = rt.stdin();
     let mut piece = io::large_buffer();
     let mut kept = [0u8; 256];
     let mut stored = [0u8; 2048];
-    let mut answers = io::large_buffer();
+    let mut answers = Outlet::new(rt.stdout());
     let input: &mut [u8] = &mut piece;
     let line = &mut kept;
     let area = &mut stored;
-    let out: &mut [u8] = &mut answers;
+    let out = &mut answers;
     let mut s = sessions::begin();
-    let mut turns = u64::MAX;
-    while 0 < turns {
-        turns -= 1;
-        let next = take_piece(s, input, line, area, out);
+    for _ in 0..u64::MAX {
+        let next = take_piece(&mut script, s, input, line, area, out);
         s = next.session;
+        out.outcome()?;
         if next.length == 0 {
             break;
         }
     }
     finish(s, line, area, out);
+    out.outcome()
 }

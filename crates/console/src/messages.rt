@@ -1,9 +1,9 @@
 // The answer to a line that is no command, and the list of commands. A line went wrong in some place, by the numbers of
 // the constants of `scripts`; the text says what is taken there.
-use crate::output::{put, put_number, put_text};
+use crate::output::{Outlet, put, put_number, put_text};
 
 // In a command of the bus area.
-fn put_area_reason(out: &mut [u8], waiting: usize, wrong: u32) -> usize {
+fn put_area_reason(out: &mut Outlet, waiting: usize, wrong: u32) -> usize {
     match wrong {
         scripts::NO_LENGTH => put_text(out, waiting, b"LENGTH is a number from 0 to 2048"),
         scripts::NO_START => put_text(
@@ -26,7 +26,7 @@ a new one",
 }
 
 // In a damage command.
-fn put_damage_reason(out: &mut [u8], waiting: usize, wrong: u32) -> usize {
+fn put_damage_reason(out: &mut Outlet, waiting: usize, wrong: u32) -> usize {
     match wrong {
         scripts::NO_DAMAGE => put_text(
             out,
@@ -56,7 +56,7 @@ numbers for Off",
 }
 
 // In a number, a name that stands for one, or a reading.
-fn put_number_reason(out: &mut [u8], waiting: usize, wrong: u32) -> usize {
+fn put_number_reason(out: &mut Outlet, waiting: usize, wrong: u32) -> usize {
     match wrong {
         scripts::NO_WORD => put_text(out, waiting, b"WORD is a number from 0 to 4294967295"),
         scripts::NO_SIDE => put_text(
@@ -97,7 +97,7 @@ fn put_number_reason(out: &mut [u8], waiting: usize, wrong: u32) -> usize {
 }
 
 // In the line as a whole, or in a name of its own.
-fn put_reason(out: &mut [u8], waiting: usize, wrong: u32) -> usize {
+fn put_reason(out: &mut Outlet, waiting: usize, wrong: u32) -> usize {
     match wrong {
         scripts::TOO_LONG => put_text(out, waiting, b"the line has more than 255 bytes"),
         scripts::NO_COMMAND => put_text(
@@ -129,7 +129,7 @@ vappr-captured, altsel-captured or altsel-on-track",
 }
 
 // 'error', the line's number, and what is wrong.
-pub(crate) fn put_error(out: &mut [u8], waiting: usize, line: u64, wrong: u32) -> usize {
+pub(crate) fn put_error(out: &mut Outlet, waiting: usize, line: u64, wrong: u32) -> usize {
     let mut at = put_text(out, waiting, b"error ");
     at = put_number(out, at, line);
     at = put_text(out, at, b": ");
@@ -138,7 +138,7 @@ pub(crate) fn put_error(out: &mut [u8], waiting: usize, line: u64, wrong: u32) -
 }
 
 // The list of commands, framed by 'help' and 'end'.
-pub(crate) fn put_help(out: &mut [u8], waiting: usize) -> usize {
+pub(crate) fn put_help(out: &mut Outlet, waiting: usize) -> usize {
     let at = put_text(
         out,
         waiting,

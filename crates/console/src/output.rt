@@ -1,24 +1,50 @@
 // Answers wait in a buffer until it is full or more input is asked for. Each function takes how many
 // bytes wait, and answers how many wait then.
-use libc::STDOUT_FILENO;
+use std::io::{Error, Stdout};
 
-// Writes what waits.
-pub(crate) fn flush(out: &[u8], waiting: usize) {
-    if waiting <= out.len() {
-        io::write_all(STDOUT_FILENO, &out[0..waiting]);
+// The buffer, where it is written to, and why a write failed, if one did: what waited then is lost.
+#[derive(Drop)]
+pub(crate) struct Outlet {
+    to: Stdout,
+    room: [u8; 65536],
+    failed: Option<Error>,
+}
+
+impl Outlet {
+    pub(crate) fn new(to: Stdout) -> Outlet {
+        Outlet {
+            to,
+            room: io::large_buffer(),
+            failed: None,
+        }
+    }
+
+    // Whether all writes went well so far.
+    pub(crate) fn outcome(&self) -> Result<(), Error> {
+        match self.failed {
+            Some(e) => Err(e),
+            None => Ok(()),
+        }
     }
 }
 
-pub(crate) fn put(out: &mut [u8], waiting: usize, byte: u8) -> usize {
-    if waiting < out.len() {
-        out[waiting] = byte;
+// Writes what waits.
+pub(crate) fn flush(out: &mut Outlet, waiting: usize) {
+    let bytes: &[u8] = &out.room;
+    if waiting <= bytes.len() {
+        if let Err(e) = out.to.write_all(&bytes[..waiting]) {
+            out.failed = Some(e);
+        }
+    }
+}
+
+pub(crate) fn put(out: &mut Outlet, waiting: usize, byte: u8) -> usize {
+    if waiting < out.room.len() {
+        out.room[waiting] = byte;
         return waiting + 1;
     }
     flush(out, waiting);
-    if out.len() == 0 {
-        return 0;
-    }
-    out[0] = byte;
+    out.room[0] = byte;
     1
 }
 
@@ -27,7 +53,7 @@ fn printed(byte: u8) -> u8 {
     if byte == b'_' { b' ' } else { byte }
 }
 
-pub(crate) fn put_text(out: &mut [u8], waiting: usize, text: &[u8]) -> usize {
+pub(crate) fn put_text(out: &mut Outlet, waiting: usize, text: &[u8]) -> usize {
     let mut at = waiting;
     let mut i = 0;
     while i < text.len() {
@@ -38,7 +64,7 @@ pub(crate) fn put_text(out: &mut [u8], waiting: usize, text: &[u8]) -> usize {
 }
 
 // So many spaces.
-pub(crate) fn put_spaces(out: &mut [u8], waiting: usize, count: usize) -> usize {
+pub(crate) fn put_spaces(out: &mut Outlet, waiting: usize, count: usize) -> usize {
     let mut at = waiting;
     let mut i = 0;
     while i < count {
@@ -50,7 +76,7 @@ pub(crate) fn put_spaces(out: &mut [u8], waiting: usize, count: usize) -> usize 
 
 // The label with this number, from 0, of a text of labels, and as many spaces as fill the width.
 pub(crate) fn put_nth(
-    out: &mut [u8],
+    out: &mut Outlet,
     waiting: usize,
     labels: &[u8],
     n: usize,
@@ -65,7 +91,7 @@ pub(crate) fn put_nth(
 }
 
 // A number in decimal.
-pub(crate) fn put_number(out: &mut [u8], waiting: usize, n: u64) -> usize {
+pub(crate) fn put_number(out: &mut Outlet, waiting: usize, n: u64) -> usize {
     let mut digits = [0u8; 20];
     let k = io::decimal(n, &mut digits);
     put_text(out, waiting, &digits[..k])
@@ -76,13 +102,13 @@ fn wide(n: u32) -> u64 {
 }
 
 // A space and a number.
-pub(crate) fn put_next(out: &mut [u8], waiting: usize, n: u32) -> usize {
+pub(crate) fn put_next(out: &mut Outlet, waiting: usize, n: u32) -> usize {
     let at = put(out, waiting, b' ');
     put_number(out, at, wide(n))
 }
 
 // A number that may be negative.
-pub(crate) fn put_signed(out: &mut [u8], waiting: usize, x: i32) -> usize {
+pub(crate) fn put_signed(out: &mut Outlet, waiting: usize, x: i32) -> usize {
     let n = number_forms::magnitude(x);
     if x < 0 {
         let at = put(out, waiting, b'-');
@@ -92,13 +118,13 @@ pub(crate) fn put_signed(out: &mut [u8], waiting: usize, x: i32) -> usize {
 }
 
 // A space and such a number.
-pub(crate) fn put_next_signed(out: &mut [u8], waiting: usize, x: i32) -> usize {
+pub(crate) fn put_next_signed(out: &mut Outlet, waiting: usize, x: i32) -> usize {
     let at = put(out, waiting, b' ');
     put_signed(out, at, x)
 }
 
 // A space and a flag, 0 or 1.
-pub(crate) fn put_next_flag(out: &mut [u8], waiting: usize, flag: bool) -> usize {
+pub(crate) fn put_next_flag(out: &mut Outlet, waiting: usize, flag: bool) -> usize {
     let at = put(out, waiting, b' ');
     if flag {
         put(out, at, b'1')
@@ -108,7 +134,7 @@ pub(crate) fn put_next_flag(out: &mut [u8], waiting: usize, flag: bool) -> usize
 }
 
 // A space and a float's bit pattern. The language reads no pattern of a NaN, and a NaN is 'nan'.
-pub(crate) fn put_next_float(out: &mut [u8], waiting: usize, x: f64) -> usize {
+pub(crate) fn put_next_float(out: &mut Outlet, waiting: usize, x: f64) -> usize {
     if x != x {
         return put_text(out, waiting, b" nan");
     }
@@ -119,14 +145,14 @@ pub(crate) fn put_next_float(out: &mut [u8], waiting: usize, x: f64) -> usize {
 }
 
 // A byte as two hexadecimal digits.
-fn put_pair(out: &mut [u8], waiting: usize, byte: u8) -> usize {
+fn put_pair(out: &mut Outlet, waiting: usize, byte: u8) -> usize {
     let mut digits = [0u8; 16];
     let k = io::hex(byte as u64, 2, &mut digits);
     put_text(out, waiting, &digits[..k])
 }
 
 // Bytes, each as two digits.
-pub(crate) fn put_pairs(out: &mut [u8], waiting: usize, bytes: &[u8]) -> usize {
+pub(crate) fn put_pairs(out: &mut Outlet, waiting: usize, bytes: &[u8]) -> usize {
     let mut at = waiting;
     let mut i = 0;
     while i < bytes.len() {

@@ -3,7 +3,7 @@
 // A row has 35 columns between a border and a space on either side, so that both panels fit 80 columns.
 ghost use Rattle.std.specs.Prelude.{◌<◌};
 
-use crate::output::{put, put_next, put_nth, put_number, put_signed, put_spaces, put_text};
+use crate::output::{Outlet, put, put_next, put_nth, put_number, put_signed, put_spaces, put_text};
 use bench::Bench;
 use bench::parts::reference_at;
 use calls::answers::Display;
@@ -19,7 +19,7 @@ struct Shown {
 }
 
 // One of two texts.
-fn put_either(out: &mut [u8], waiting: usize, first: bool, yes: &[u8], no: &[u8]) -> usize {
+fn put_either(out: &mut Outlet, waiting: usize, first: bool, yes: &[u8], no: &[u8]) -> usize {
     if first {
         put_text(out, waiting, yes)
     } else {
@@ -37,7 +37,7 @@ fn has(sum: u32, part: u32) -> bool
 // ---- the title, flight director and autopilot, the flags, the lamps
 
 // Whether the side has the pilot flying, in 12 columns. A display shows both PF lamps.
-fn put_role(out: &mut [u8], waiting: usize, side: u32, lamps: u32) -> usize {
+fn put_role(out: &mut Outlet, waiting: usize, side: u32, lamps: u32) -> usize {
     let flying = if side == 0 {
         has(lamps, 128)
     } else {
@@ -47,7 +47,7 @@ fn put_role(out: &mut [u8], waiting: usize, side: u32, lamps: u32) -> usize {
 }
 
 // Which side it is, and its role, or that its display was refused.
-fn put_title(out: &mut [u8], waiting: usize, p: Shown) -> usize {
+fn put_title(out: &mut Outlet, waiting: usize, p: Shown) -> usize {
     let d = p.display;
     let at = put_nth(out, waiting, b"LEFT RIGHT", p.side as usize, 23);
     if p.refusal == 0 {
@@ -57,7 +57,7 @@ fn put_title(out: &mut [u8], waiting: usize, p: Shown) -> usize {
     put_next(out, end, p.refusal)
 }
 
-fn put_switches(out: &mut [u8], waiting: usize, fd: bool, ap: bool) -> usize {
+fn put_switches(out: &mut Outlet, waiting: usize, fd: bool, ap: bool) -> usize {
     let mut at = put_text(out, waiting, b"flight director ");
     at = put_either(out, at, fd, b"ON ", b"off");
     at = put_text(out, at, b"  autopilot ");
@@ -65,7 +65,7 @@ fn put_switches(out: &mut [u8], waiting: usize, fd: bool, ap: bool) -> usize {
 }
 
 // The overspeed flag in 24 columns, and independent operation in the other 11.
-fn put_flags(out: &mut [u8], waiting: usize, overspeed: bool, independent: bool) -> usize {
+fn put_flags(out: &mut Outlet, waiting: usize, overspeed: bool, independent: bool) -> usize {
     let set = b"OVERSPEED FLAG SET      ";
     let clear = b"overspeed flag clear    ";
     let at = put_either(out, waiting, overspeed, set, clear);
@@ -73,7 +73,7 @@ fn put_flags(out: &mut [u8], waiting: usize, overspeed: bool, independent: bool)
 }
 
 // A lamp by its number and its part of the sum. Lit lamps stand in brackets and capitals.
-fn put_lamp(out: &mut [u8], waiting: usize, lamps: u32, n: usize, part: u32) -> usize
+fn put_lamp(out: &mut Outlet, waiting: usize, lamps: u32, n: usize, part: u32) -> usize
     requires { 0 < part }
 {
     let dark = b"_hdg_ _nav_ _appr_ _vs_ _flc_ _alt_ _ap_";
@@ -84,7 +84,7 @@ fn put_lamp(out: &mut [u8], waiting: usize, lamps: u32, n: usize, part: u32) -> 
     put_nth(out, waiting, dark, n, 0)
 }
 
-fn put_lamps(out: &mut [u8], waiting: usize, lamps: u32) -> usize {
+fn put_lamps(out: &mut Outlet, waiting: usize, lamps: u32) -> usize {
     let mut at = put_lamp(out, waiting, lamps, 0, 1);
     at = put_lamp(out, at, lamps, 1, 2);
     at = put_lamp(out, at, lamps, 2, 4);
@@ -98,19 +98,19 @@ fn put_lamps(out: &mut [u8], waiting: usize, lamps: u32) -> usize {
 // ---- modes
 
 // The engaged mode of an axis by the name of its law, and the law's number, which is below 10.
-fn put_engaged(out: &mut [u8], waiting: usize, axis: &[u8], names: &[u8], law: u32) -> usize {
+fn put_engaged(out: &mut Outlet, waiting: usize, axis: &[u8], names: &[u8], law: u32) -> usize {
     let mut at = put_text(out, waiting, axis);
     at = put_nth(out, at, names, law as usize, 15);
     put_number(out, at, law as u64)
 }
 
-fn put_armed(out: &mut [u8], waiting: usize, names: &[u8], armed: u32) -> usize {
+fn put_armed(out: &mut Outlet, waiting: usize, names: &[u8], armed: u32) -> usize {
     let at = put_text(out, waiting, b"          armed    ");
     put_nth(out, at, names, armed as usize, 16)
 }
 
 // The first ten rows, of a display that was not refused.
-fn put_state(out: &mut [u8], waiting: usize, row: u32, p: Shown) -> usize {
+fn put_state(out: &mut Outlet, waiting: usize, row: u32, p: Shown) -> usize {
     let d = p.display;
     let lateral = b"Off ROLL HDG NAV LAPPR LGA";
     let vertical = b"Off PITCH VS FLC ALT ALTSEL_capture ALTSEL_track VAPPR VGA";
@@ -154,7 +154,7 @@ fn width_of(x: i32) -> usize {
 }
 
 // A number at the right of so many columns.
-fn put_right(out: &mut [u8], waiting: usize, x: i32, columns: usize) -> usize {
+fn put_right(out: &mut Outlet, waiting: usize, x: i32, columns: usize) -> usize {
     let width = width_of(x);
     if columns < width {
         return put_signed(out, waiting, x);
@@ -164,7 +164,7 @@ fn put_right(out: &mut [u8], waiting: usize, x: i32, columns: usize) -> usize {
 }
 
 // A reference in its unit, in six columns. The vertical speed counts hundreds of feet a minute.
-fn put_amount(out: &mut [u8], waiting: usize, place: u32, x: i32) -> usize {
+fn put_amount(out: &mut Outlet, waiting: usize, place: u32, x: i32) -> usize {
     if (place == 3) & (x != 0) {
         let at = put_right(out, waiting, x, 4);
         return put_text(out, at, b"00");
@@ -173,7 +173,7 @@ fn put_amount(out: &mut [u8], waiting: usize, place: u32, x: i32) -> usize {
 }
 
 // A reference by its place, marked where it is steered to.
-fn put_target(out: &mut [u8], waiting: usize, place: u32, d: Display) -> usize {
+fn put_target(out: &mut Outlet, waiting: usize, place: u32, d: Display) -> usize {
     let names =
         b"heading preselected_altitude held_altitude vertical_speed indicated_airspeed roll pitch";
     let references = d.references;
@@ -188,7 +188,7 @@ fn put_target(out: &mut [u8], waiting: usize, place: u32, d: Display) -> usize {
 // ---- both panels
 
 // A row of a panel whose display was refused: it has no value.
-fn put_refused(out: &mut [u8], waiting: usize, row: u32) -> usize {
+fn put_refused(out: &mut Outlet, waiting: usize, row: u32) -> usize {
     if row == 2 {
         return put_text(out, waiting, b"no values: the display is refused  ");
     }
@@ -196,7 +196,7 @@ fn put_refused(out: &mut [u8], waiting: usize, row: u32) -> usize {
 }
 
 // What stands in a row.
-fn put_inside(out: &mut [u8], waiting: usize, row: u32, p: Shown) -> usize {
+fn put_inside(out: &mut Outlet, waiting: usize, row: u32, p: Shown) -> usize {
     let d = p.display;
     if row == 0 {
         return put_title(out, waiting, p);
@@ -210,14 +210,14 @@ fn put_inside(out: &mut [u8], waiting: usize, row: u32, p: Shown) -> usize {
     put_target(out, waiting, row - 10, d)
 }
 
-fn put_row(out: &mut [u8], waiting: usize, row: u32, p: Shown) -> usize {
+fn put_row(out: &mut Outlet, waiting: usize, row: u32, p: Shown) -> usize {
     let start = put_text(out, waiting, b"| ");
     let end = put_inside(out, start, row, p);
     put_text(out, end, b" |")
 }
 
 // The seventeen rows of both panels.
-fn put_rows(out: &mut [u8], waiting: usize, left: Shown, right: Shown) -> usize {
+fn put_rows(out: &mut Outlet, waiting: usize, left: Shown, right: Shown) -> usize {
     let mut at = waiting;
     let mut row = 0;
     while row < 17 {
@@ -230,7 +230,7 @@ fn put_rows(out: &mut [u8], waiting: usize, left: Shown, right: Shown) -> usize 
     at
 }
 
-fn put_border(out: &mut [u8], waiting: usize) -> usize {
+fn put_border(out: &mut Outlet, waiting: usize) -> usize {
     let at = put_text(out, waiting, b"+-------------------------------------+  ");
     put_text(out, at, b"+-------------------------------------+\n")
 }
@@ -249,7 +249,7 @@ fn panel_of(b: Bench, side: u32) -> Shown {
     }
 }
 
-pub(crate) fn put_panel(out: &mut [u8], waiting: usize, b: Bench) -> usize {
+pub(crate) fn put_panel(out: &mut Outlet, waiting: usize, b: Bench) -> usize {
     let left = panel_of(b, 0);
     let right = panel_of(b, 1);
     let mut at = put_text(out, waiting, b"panel\n");

@@ -4,58 +4,54 @@
 
 mod patterns;
 
-use libc::STDOUT_FILENO;
 use patterns::{COUNT, PATTERNS};
 use rounding::Whole;
+use std::io;
 
 // Writes a number in decimal.
-fn print_signed(x: i32) {
+fn print_signed(rt: &impl Print, x: i32) -> io::Result<()> {
     if x < 0 {
-        io::write_all(STDOUT_FILENO, b"-");
+        rt.write_all(b"-")?;
     }
-    io::print_decimal(STDOUT_FILENO, number_forms::magnitude(x));
+    rt.print(number_forms::magnitude(x))
 }
 
-fn print_whole(w: Whole) {
+fn print_whole(rt: &impl Print, w: Whole) -> io::Result<()> {
     match w {
-        Whole::NotFinite => {
-            io::write_all(STDOUT_FILENO, b"not-finite");
-        }
-        Whole::Beyond => {
-            io::write_all(STDOUT_FILENO, b"beyond");
-        }
-        Whole::Value(v) => print_signed(v),
+        Whole::NotFinite => rt.write_all(b"not-finite"),
+        Whole::Beyond => rt.write_all(b"beyond"),
+        Whole::Value(v) => print_signed(rt, v),
     }
 }
 
 // A line for a bit pattern: the pattern, and what its float rounds to.
-fn print_rounded(bits: u64) {
-    io::print_hex(STDOUT_FILENO, bits, 16);
-    io::write_all(STDOUT_FILENO, b" ");
-    print_whole(rounding::whole_value(number_forms::from_pattern(bits)));
-    io::write_all(STDOUT_FILENO, b"\n");
+fn print_rounded(rt: &impl Print, bits: u64) -> io::Result<()> {
+    print!(rt; "{bits:016x} ")?;
+    print_whole(rt, rounding::whole_value(number_forms::from_pattern(bits)))?;
+    rt.write_all(b"\n")
 }
 
 // The rotation from one count to another, behind a space.
-fn print_next_rotation(old: u8, new: u8) {
-    io::write_all(STDOUT_FILENO, b" ");
-    print_signed(rotation::rotation(old, new));
+fn print_next_rotation(rt: &impl Print, old: u8, new: u8) -> io::Result<()> {
+    rt.write_all(b" ")?;
+    print_signed(rt, rotation::rotation(old, new))
 }
 
 // A line for an old count: the rotation to each new count.
-fn print_rotations(old: u8) {
-    print_signed(rotation::rotation(old, 0));
+fn print_rotations(rt: &impl Print, old: u8) -> io::Result<()> {
+    print_signed(rt, rotation::rotation(old, 0))?;
     for new in 1..=255u8 {
-        print_next_rotation(old, new);
+        print_next_rotation(rt, old, new)?;
     }
-    io::write_all(STDOUT_FILENO, b"\n");
+    rt.write_all(b"\n")
 }
 
-fn main() {
+fn main(rt: HostRuntime) -> io::Result<()> {
     for i in 0..COUNT {
-        print_rounded(PATTERNS[i]);
+        print_rounded(&rt, PATTERNS[i])?;
     }
     for old in 0..=255u8 {
-        print_rotations(old);
+        print_rotations(&rt, old)?;
     }
+    Ok(())
 }

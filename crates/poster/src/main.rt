@@ -5,7 +5,7 @@
 ghost use Rattle.std.specs.Prelude.{◌≡◌};
 ghost use Rattle.codes.specs.Poster.{number_at, lateral_in, armed_sum_in, vertical_in};
 
-use libc::STDOUT_FILENO;
+use std::io;
 
 fn lateral_in(number: u64) -> u64
     ensures { result ≡ lateral_in number }
@@ -26,26 +26,27 @@ fn vertical_in(number: u64) -> u64
 }
 
 // A number, and what parts it from the next.
-fn print_number(n: u64, after: &[u8]) {
-    io::print_decimal(STDOUT_FILENO, n);
-    io::write_all(STDOUT_FILENO, after);
+fn print_number(rt: &impl Print, n: u64, after: &[u8]) -> io::Result<()> {
+    rt.print(n)?;
+    rt.write_all(after)
 }
 
 // The line of a code, from its number in the list.
-fn print_line(code: usize, number: u64)
+fn print_line(rt: &impl Print, code: usize, number: u64) -> io::Result<()>
     requires { number ≡ number_at code }
 {
-    print_number(code as u64, b" ");
-    print_number(lateral_in(number), b" ");
-    print_number(armed_sum_in(number), b" ");
-    print_number(vertical_in(number), b"\n");
+    print_number(rt, code as u64, b" ")?;
+    print_number(rt, lateral_in(number), b" ")?;
+    print_number(rt, armed_sum_in(number), b" ")?;
+    print_number(rt, vertical_in(number), b"\n")
 }
 
-fn main() {
+fn main(rt: HostRuntime) -> io::Result<()> {
     let numbers = codes::set_numbers();
     let mut code = 0;
     while code < 108 {
-        print_line(code, numbers[code] as u64);
+        print_line(&rt, code, numbers[code] as u64)?;
         code += 1;
     }
+    Ok(())
 }

@@ -12,7 +12,8 @@ mod checksum;
 mod list;
 
 use bench::Bench;
-use libc::STDOUT_FILENO;
+use std::io;
+use std::rt::Env;
 
 // The bench after some calls, and the checksum of their answers.
 #[derive(Clone, Copy)]
@@ -153,11 +154,13 @@ fn number_in(text: &[u8]) -> u64 {
     value
 }
 
-// An argument as a number.
-fn argument(i: usize) -> u64 {
+// An argument as a number; 0 where it is missing or has more than 20 bytes.
+fn argument(rt: &impl Env, i: usize) -> u64 {
     let mut text = [0u8; 20];
-    let n = os::arg(i, &mut text);
-    number_in(&text[..n])
+    match rt.arg(i, &mut text) {
+        Ok(n) => number_in(&text[..n]),
+        Err(_) => 0,
+    }
 }
 
 // The checksum of a list of calls, or of frames.
@@ -170,12 +173,11 @@ fn sum_of(seed: u64, calls: u64, chosen: u64, live: bool) -> u64 {
 }
 
 // Runs the list that the arguments name, and writes its checksum.
-fn main() {
-    let seed = argument(1);
-    let calls = argument(2);
-    let chosen = argument(3);
-    let live = argument(4);
+fn main(rt: HostRuntime) -> io::Result<()> {
+    let seed = argument(&rt, 1);
+    let calls = argument(&rt, 2);
+    let chosen = argument(&rt, 3);
+    let live = argument(&rt, 4);
     let sum = sum_of(seed, calls, chosen, live == 1);
-    io::print_decimal(STDOUT_FILENO, sum);
-    io::write_all(STDOUT_FILENO, b"\n");
+    println!(rt; "{sum}")
 }
