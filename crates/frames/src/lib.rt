@@ -57,6 +57,7 @@ fn raised_at(r: References, place: u32, by: u64) -> u64
 }
 
 // The frame of a channel, as that of a side.
+#[tactic(auto, unfolding(crate::specs::Frames::frame_of))]
 fn frame_bytes(side: u32, c: Channel) -> [u8; 19]
     requires { side < 256 }
     ensures { result ≡ frame_of side c }
@@ -105,11 +106,12 @@ fn write_frame(part: &mut [u8], side: u32, c: Channel) -> u32
         return NO_ROOM;
     }
     let frame = frame_bytes(side, c);
-    bytes::copy(&frame, part);
+    part[..19].copy_from_slice(&frame);
     0
 }
 
 // Writes the frame of a side of the bench into the area, from a start on, and answers its refusal or 0.
+#[tactic(auto, unfolding(crate::specs::Frames::write_refusal, crate::specs::Frames::area_written))]
 pub fn write(b: Bench, side: u32, area: &mut [u8], start: usize) -> u32
     ensures answer { result ≡ write_refusal b side start area.old }
     ensures new_area { area.new ≡ area_written b side start area.old }
@@ -158,6 +160,7 @@ fn two_bytes(part: &[u8], at: usize, by: i32) -> i32
     lowered(high * 256 + low, by)
 }
 
+#[tactic(auto, unfolding(crate::specs::Frames::references_in))]
 fn references_in(part: &[u8]) -> References
     requires { 19 ≤ length part.now }
     ensures { result ≡ references_in part.now }
@@ -174,6 +177,7 @@ fn references_in(part: &[u8]) -> References
 }
 
 // Whether a part begins with the mark and the version of a frame.
+#[tactic(auto, unfolding(crate::specs::Frames::is_marked))]
 fn is_marked(part: &[u8]) -> bool
     requires { 19 ≤ length part.now }
     ensures { result ≡ is_marked part.now }
@@ -209,6 +213,7 @@ fn accepted_if(in_range: bool, side: u32, channel: Channel) -> FrameRead
 }
 
 // The fields of a frame, if each is in its range.
+#[tactic(auto, unfolding(crate::specs::Frames::fields_read))]
 fn read_fields(part: &[u8]) -> FrameRead
     requires { 19 ≤ length part.now }
     ensures { result ≡ fields_read part.now }
@@ -232,6 +237,7 @@ fn read_fields(part: &[u8]) -> FrameRead
 }
 
 // Reads the frame at the beginning of a part of the area.
+#[tactic(auto, unfolding(crate::specs::Frames::frame_read))]
 pub fn read_frame(part: &[u8]) -> FrameRead
     ensures { result ≡ frame_read part.now }
 {
@@ -245,6 +251,7 @@ pub fn read_frame(part: &[u8]) -> FrameRead
 }
 
 // Reads the frame that begins at a start in the area.
+#[tactic(auto, unfolding(crate::specs::Frames::read_at, crate::specs::Frames::frame_read))]
 pub fn read(area: &[u8], start: usize) -> FrameRead
     ensures { result ≡ read_at start area.now }
 {
