@@ -2,21 +2,19 @@
 -- Assumes nothing.
 use mathlib.Core.Path.{◌≡◌, refl, sym, ap, subst}
 use mathlib.Core.List.{List, [], ◌∷◌, map}
-use Prim.Native.Nat.{ℕ, zero, suc, ◌/◌, ◌%◌, ◌≤◌, ◌<◌}
+use Prim.Native.Nat.{ℕ, zero, suc, ◌/◌, ◌%◌, ◌<◌}
 use native.Mathlib.Nat.{le_of_suc-le-suc, not-suc-le-zero}
-use lib.Dec.{T, leb, leb→le}
+use lib.Dec.{T}
 use lib.ListN.{length, get_or}
-use Rattle.modes.specs.declared.Vertical.{Vertical}
 use Rattle.modes.specs.declared.Modes.{Modes}
 use Rattle.modes.specs.declared.ModeSet.{ModeSet}
 use Rattle.modes.specs.Finite.{pick}
 use Rattle.modes.specs.Sets.{engaged, armed, cleared, once, coherent}
 use Rattle.modes.specs.Numbers.{armed_sum}
-use Rattle.modes.proofs.Finite.{at}
-use Rattle.modes.proofs.Every.{verticals, at_modes, at_sets, same_modes_lem, agree_number}
+use Rattle.modes.proofs.Every.{at_sets, same_modes_lem, agree_number}
 use Rattle.codes.specs.declared.Coded.{Coded}
 use Rattle.codes.specs.Codes.{coded_sets, same_set, code_of, set_of}
-use Rattle.codes.specs.Private.{first_code, double_place, place_beside, arithmetic, digits_of, set_shown}
+use Rattle.codes.specs.Private.{arithmetic, digits_of, set_shown}
 
 pub count : length coded_sets ≡ 108
 unfolding coded_sets coherent once cleared armed engaged
@@ -31,16 +29,6 @@ off_code = refl
 pub code_agrees : (m : Modes) → arithmetic m ≡ code_of (ModeSet.On m)
 unfolding code_of coded_sets coherent once cleared armed engaged
 code_agrees = agree_number arithmetic (λ m. code_of (ModeSet.On m)) tt
-
--- the parts of the sum are small
-pub double_le : (v : Vertical) → double_place v ≤ 13
-double_le v = leb→le _ 13 (at verticals (λ v. leb (double_place v) 13) tt v)
-
-pub place_le : (m : Modes) → place_beside m.lateral m.vertical m.vappr_armed ≤ 108
-place_le m = leb→le _ 108 (at_modes (λ m. leb (place_beside m.lateral m.vertical m.vappr_armed) 108) tt m)
-
-pub first_le : (m : Modes) → first_code m.lateral m.armed ≤ 108
-first_le m = leb→le _ 108 (at_modes (λ m. leb (first_code m.lateral m.armed) 108) tt m)
 
 -- ---- from a code to its set
 

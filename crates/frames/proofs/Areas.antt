@@ -2,9 +2,9 @@
 use mathlib.Core.Path.{◌≡◌, refl, sym, ap, ◌∙◌}
 use mathlib.Core.Bool.{Bool, true, false, not, cond}
 use mathlib.Core.List.{List, ◌++◌, append-nil}
-use Prim.Native.Nat.{ℕ, ◌+◌, ◌-◌, ◌≤◌, ◌<◌}
+use Prim.Native.Nat.{ℕ, ◌+◌, ◌-◌, ◌≤◌}
 use native.Mathlib.Omega.{arith}
-use borrow.Author.Tests.{ne_eqb, lt-ltb, le-ltb, lt-leb, leb-true, leb-false}
+use borrow.Author.Tests.{ne_eqb, lt-ltb, le-ltb, leb-true, leb-false}
 use lib.Dec.{eqb, leb, ltb}
 use lib.ListN.{length, take, drop, length-drop}
 use lib.Seq.{take_all, drop-length, drop-drop}
@@ -31,7 +31,7 @@ put_frame frame start area h =
     ∙ ap (λ (part : List ℕ). take start area ++ (frame ++ drop (length frame) part)) (from_is start area)
     ∙ ap (λ (rest : List ℕ). take start area ++ (frame ++ rest)) (drop-drop (length frame) start area)
 
--- ---- a write that is not refused with 1 or 2, from what the writer of a part answers and leaves
+-- ---- a write that is not refused with 1 or 2, from what the writer of a part leaves
 
 pub frame_length : (side : ℕ) (c : Channel) → length (frame_of side c) ≡ 19
 unfolding frame_of
@@ -57,17 +57,6 @@ module _ (b : Bench) (side start : ℕ) (area : List ℕ) (sound-b : sound b ≡
   refusal_by_room : write_refusal b side start area ≡ cond (fits start area) 0 7
   unfolding write_refusal
   refusal_by_room = rw (sound-b, is_side)
-
-  -- a start past the end
-  pub past_refusal : length area < start → 7 ≡ write_refusal b side start area
-  past_refusal h = sym (refusal_by_room ∙ ap (λ (t : Bool). cond t 0 7) (lt-leb (start + 19) (length area) (omega arith)))
-
-  pub refusal_is : start ≤ length area → (n : ℕ) → n ≡ cond (ltb (length (from start area)) 19) 7 0 → n ≡ write_refusal b side start area
-  refusal_is h n e = e ∙ ap (λ (t : Bool). cond t 7 0) (room start area h) ∙ go (fits start area) ∙ sym refusal_by_room
-    where
-      go : (t : Bool) → ◌≡◌ {A = ℕ} (cond (not t) 7 0) (cond t 0 7)
-      go true = refl
-      go false = refl
 
   pub area_is : start ≤ length area → (c : Channel) → c ≡ box side b → (last : List ℕ) →
       last ≡ cond (ltb (length (from start area)) 19) (from start area) (frame_of side c ++ drop 19 (from start area)) →

@@ -1,14 +1,12 @@
 -- Numbers of a frame: raised on the way in, lowered on the way out. Assumes nothing.
 use mathlib.Core.Path.{◌≡◌, refl, sym, ap, ◌∙◌}
 use mathlib.Core.Bool.{true, false, false≢true}
-use Prim.Native.Nat.{ℕ, zero, suc, ◌+◌, ◌-◌, ◌*◌, ◌^◌, ◌≤◌, ◌<◌}
+use Prim.Native.Nat.{ℕ, zero, suc, ◌+◌, ◌-◌, ◌*◌, ◌≤◌, ◌<◌}
 use native.Mathlib.Omega.{arith}
 use borrow.Author.Tests.{leb-true, leb-false}
-use lib.Dec.{T, leb, leb→le, le→leb}
+use lib.Dec.{T, leb→le}
 use lib.IntN.{ℤ, pos, negsuc, neg_ℤ, nat_abs, ◌+ℤ◌, ◌-ℤ◌, +ℤ-neg_ℤ_cancel, -ℤ-+ℤ_cancel}
-use lib.Signed.{mag, le_z}
-use mir.Syntax.{w32}
-use mir.Val.{SFits}
+use lib.Signed.{le_z}
 use Rattle.rotation.proofs.Signed.{sub_case}
 use Rattle.frames.specs.Frames.{natural, raised, high, low}
 
@@ -28,17 +26,6 @@ pub raised_below : (by : ℕ) (x : ℤ) → le_z (pos 0) x ≡ false → nat_abs
 unfolding raised
 raised_below by (pos n) h l = absurd (let b = leb-false 0 n h in omega arith)
 raised_below by (negsuc n) h l = sub_case (λ (z : ℤ). by - suc n ≡ natural z) by (suc n) (λ m. absurd (omega arith)) (λ m. refl)
-
-pub size_below : (x : ℤ) → SFits w32 x → nat_abs x ≤ 2 ^ 31
-size_below (pos n) h = let k = h.sfits in omega arith
-size_below (negsuc n) h = let k = h.sfits in omega arith
-
--- ---- lowered
-
-pub neg_mag : (m : ℕ) (z : ℤ) → mag z < m → T (leb (mag (neg_ℤ z)) m)
-neg_mag m (pos zero) h = le→leb _ m (omega arith)
-neg_mag m (pos (suc n)) h = le→leb _ m (omega arith)
-neg_mag m (negsuc n) h = le→leb _ m (omega arith)
 
 -- ---- there and back
 
