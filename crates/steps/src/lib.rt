@@ -15,6 +15,7 @@ use modes::numbers::{lateral_law, vertical_law};
 use modes::{Event, ModeSet};
 
 // The references with a kept whole value at a place, clamped to its range.
+#[tactic(auto, unfolding(crate::specs::Entry::loaded))]
 fn load(r: References, place: u32, whole: i32) -> References
     ensures { result ≡ loaded place whole r }
 {
@@ -62,6 +63,7 @@ fn enter_vertical(k: Wholes, was: u32, law: u32, r: References) -> References
 }
 
 // The references of a side whose set goes from one to another.
+#[tactic(auto, using(crate::proofs::ByLaw::entry_by_law))]
 pub fn enter_references(k: Wholes, before: ModeSet, after: ModeSet, r: References) -> References
     ensures { result ≡ entry k before after r }
 {
@@ -70,6 +72,7 @@ pub fn enter_references(k: Wholes, before: ModeSet, after: ModeSet, r: Reference
 }
 
 // A side takes another set, with entry.
+#[tactic(auto, unfolding(crate::specs::Entry::enter, crate::specs::Entry::settled))]
 pub fn settle(b: Bench, side: u32, after: ModeSet) -> Bench
     ensures { result ≡ settled after side b }
 {
@@ -83,6 +86,7 @@ pub fn settle(b: Bench, side: u32, after: ModeSet) -> Bench
 }
 
 // AP, flag and PF after an event. A transfer ends independent operation.
+#[tactic(auto, unfolding(crate::specs::Steps::shared_after))]
 fn shared_after(e: Event, s: Shared) -> Shared
     ensures { result ≡ shared_after e s }
 {
@@ -107,6 +111,7 @@ fn shared_after(e: Event, s: Shared) -> Shared
 }
 
 // Whether a side acts and an event sets its FD On.
+#[tactic(auto, unfolding(crate::specs::Steps::asks_for))]
 fn asks_for(e: Event, side: u32, b: Bench) -> bool
     ensures { result ≡ asks_for e side b }
 {
@@ -125,6 +130,7 @@ fn toggle(flag: bool, fd: bool) -> bool
 }
 
 // A side's FD after the first step.
+#[tactic(auto, unfolding(crate::specs::Steps::sets_fd, crate::specs::Steps::fd_after))]
 fn fd_after(e: Event, side: u32, b: Bench) -> bool
     ensures { result ≡ fd_after e side b }
 {
@@ -139,6 +145,7 @@ fn fd_after(e: Event, side: u32, b: Bench) -> bool
 }
 
 // The bench `next` with a side's FD as an event leaves it, judged on `b`.
+#[tactic(auto, unfolding(crate::specs::Steps::with_fd_after))]
 fn with_fd_after(e: Event, side: u32, b: Bench, next: Bench) -> Bench
     ensures { result ≡ with_fd_after e side b next }
 {
@@ -147,6 +154,7 @@ fn with_fd_after(e: Event, side: u32, b: Bench, next: Bench) -> Bench
 }
 
 // The first step: both FDs and the shared part, decided from the bench that came.
+#[tactic(auto, unfolding(crate::specs::Steps::first_step))]
 fn first_step(e: Event, b: Bench) -> Bench
     ensures { result ≡ first_step e b }
 {
@@ -166,6 +174,7 @@ fn coming_on(s: ModeSet) -> ModeSet
 }
 
 // The On rule: the side's own FD, the one in its inbox, or AP.
+#[tactic(auto, unfolding(crate::specs::Steps::is_on))]
 fn is_on(side: u32, b: Bench) -> bool
     ensures { result ≡ is_on side b }
 {
@@ -176,6 +185,7 @@ fn is_on(side: u32, b: Bench) -> bool
 }
 
 // The set of a side by the On rule.
+#[tactic(auto, unfolding(crate::specs::Steps::second_step))]
 pub fn second_step(side: u32, b: Bench) -> ModeSet
     ensures { result ≡ second_step side b }
 {
@@ -185,6 +195,7 @@ pub fn second_step(side: u32, b: Bench) -> ModeSet
     if on { coming_on(set) } else { ModeSet::Off }
 }
 
+#[tactic(auto, unfolding(crate::specs::Steps::third_step))]
 fn third_step(e: Event, flag: bool, s: ModeSet) -> ModeSet
     ensures { result ≡ third_step e flag s }
 {
@@ -195,6 +206,7 @@ fn third_step(e: Event, flag: bool, s: ModeSet) -> ModeSet
 }
 
 // The second and the third step of a side that acts, with entry; another side is left as it is.
+#[tactic(auto, unfolding(crate::specs::Steps::later_steps))]
 fn later_steps(e: Event, flag: bool, side: u32, b: Bench) -> Bench
     ensures { result ≡ where_acting (later_steps e flag) side b }
 {
@@ -208,6 +220,7 @@ fn later_steps(e: Event, flag: bool, side: u32, b: Bench) -> Bench
 }
 
 // The bench after the three steps of an event.
+#[tactic(auto, unfolding(crate::specs::Steps::three_steps))]
 fn three_steps(e: Event, b: Bench) -> Bench
     ensures { result ≡ three_steps e b }
 {
@@ -218,6 +231,7 @@ fn three_steps(e: Event, b: Bench) -> Bench
 }
 
 // Independent operation goes on if both sides have LAPPR and VAPPR engaged.
+#[tactic(auto, unfolding(bench::specs::Independent::begun))]
 fn begin_independent(b: Bench) -> Bench
     ensures { result ≡ begun b }
 {
@@ -230,6 +244,7 @@ fn begin_independent(b: Bench) -> Bench
 }
 
 // The bench after an event; where there is none, nothing is done.
+#[tactic(auto, unfolding(crate::specs::Steps::acted))]
 pub fn act(e: Event, b: Bench) -> Bench
     ensures { result ≡ acted e b }
 {
