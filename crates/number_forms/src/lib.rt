@@ -8,6 +8,7 @@ ghost use Rattle.std.specs.Float.{binary64};
 
 // The float of a bit pattern. Every NaN's pattern gives a NaN: the language defines `from_bits`
 // only off those, so they are made by a division.
+#[tactic(auto, using(crate::proofs::Patterns::pattern_above, crate::proofs::Patterns::pattern_not_above))]
 pub fn from_pattern(bits: u64) -> f64
     ensures { result ≡ of_bits binary64 bits }
 {

@@ -71,6 +71,7 @@ fn digits_from(base: u64, start: u64, w: &[u8], most: u64) -> Wide
 }
 
 // A number of at most `most`, which 64 bits hold: one or more digits and nothing else.
+#[tactic(auto, using(crate::proofs::Numerals::empty_is, crate::proofs::Numerals::digits_are))]
 pub fn wide_number(w: &[u8], most: u64) -> Wide
     ensures { result ≡ wide_in most w.now }
 {
@@ -81,6 +82,7 @@ pub fn wide_number(w: &[u8], most: u64) -> Wide
 }
 
 // A number of at most `most`, which 32 bits hold.
+#[tactic(auto, using(crate::proofs::Numerals::wide_fits, crate::proofs::Numerals::number_is))]
 pub fn number(w: &[u8], most: u32) -> Number
     ensures { result ≡ number_in most w.now }
 {
@@ -109,6 +111,7 @@ fn all_hexadecimal(w: &[u8]) -> bool
 }
 
 // Whether a word is one or more pairs of hexadecimal digits and nothing else.
+#[tactic(auto, using(crate::proofs::Pairs::empty_pairs, crate::proofs::Pairs::odd_pairs, crate::proofs::Pairs::even_pairs))]
 pub fn are_pairs(w: &[u8]) -> bool
     ensures { result ≡ are_pairs w.now }
 {
@@ -129,6 +132,7 @@ fn pair(high: u8, low: u8) -> u8
 }
 
 // The byte of pair i.
+#[tactic(auto, using(crate::proofs::Pairs::pair_is))]
 fn pair_at(w: &[u8], i: usize) -> u8
     requires { i < length w.now / 2 }
     ensures { result ≡ slice_index (pair_bytes w.now) i }
@@ -270,6 +274,7 @@ fn pattern(w: &[u8]) -> Value
 }
 
 // 10 to the power k.
+#[tactic(auto, using(crate::proofs::Division::power_below))]
 fn power_of_ten(k: usize) -> u64
     requires { k ≤ 15 }
     ensures { result ≡ 10 ^ k }
@@ -295,6 +300,7 @@ fn quotient(n: u64, k: usize) -> f64
 }
 
 // A decimal without a point.
+#[tactic(auto, using(crate::proofs::Numerals::wide_fits))]
 fn whole(w: &[u8]) -> Value
     ensures { result ≡ whole_decimal w.now }
 {
@@ -306,6 +312,7 @@ fn whole(w: &[u8]) -> Value
 }
 
 // The number n with the digits w behind its point.
+#[tactic(auto, using(crate::proofs::Reading::read_fits), unfolding(crate::specs::Private::fraction_of))]
 fn fraction(n: u64, w: &[u8]) -> Value
     requires { n ≤ 999999999999999 }
     ensures { result ≡ fraction_of n w.now }
@@ -325,6 +332,7 @@ fn fraction(n: u64, w: &[u8]) -> Value
 }
 
 // A decimal with w before its point and v behind it.
+#[tactic(auto, using(crate::proofs::Numerals::wide_fits))]
 fn pointed(w: &[u8], v: &[u8]) -> Value
     ensures { result ≡ pointed_of w.now v.now }
 {
@@ -336,6 +344,7 @@ fn pointed(w: &[u8], v: &[u8]) -> Value
 }
 
 // A decimal without a sign.
+#[tactic(auto, using(crate::proofs::Decimals::no_point_is, crate::proofs::Decimals::point_is))]
 fn decimal(w: &[u8]) -> Value
     ensures { result ≡ decimal_as false w.now }
 {

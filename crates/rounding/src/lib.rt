@@ -65,6 +65,7 @@ fn in_answer(value: i64) -> Whole
 }
 
 // The whole value of the float that a bit pattern is read as.
+#[tactic(auto, using(crate::proofs::Floats::bits_small))]
 fn whole_of_bits(bits: u64) -> Whole
     ensures { result ≡ whole_of (of_bits binary64 bits) }
 {

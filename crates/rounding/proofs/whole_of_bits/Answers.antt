@@ -3,7 +3,7 @@
 use Rattle.std.proofs.Common.{ℕ, ◌-◌, ◌≤◌, ◌∙◌, ap, arith, w64}
 use Rattle.std.proofs.lemmas.Int.{to_z-of_z}
 use Rattle.rounding.specs.Whole.{signed_of, in_answer}
-use Rattle.rounding.proofs.Floats.{sign, field, bits_ones, bits_large, bits_small, bits_middle}
+use Rattle.rounding.proofs.Floats.{sign, field, bits_ones, bits_large, bits_middle}
 use Rattle.rounding.proofs.whole_of_bits.Goals as goal
 use Rattle.rounding.proofs.whole_of_bits.Goals.{After-nearest-magnitude}
 
@@ -14,10 +14,6 @@ returns-then-exponent-eq2047 c = bits_ones c.args.bits c.if-exponent-eq2047.true
 -- 2 ^ 52 or more
 pub returns-then-exponent-ge1075 : goal.returns-then-exponent-ge1075
 returns-then-exponent-ge1075 c = bits_large c.args.bits c.if-exponent-eq2047.false c.if-exponent-ge1075.true
-
--- below a half
-pub returns-then-exponent-lt1022 : goal.returns-then-exponent-lt1022
-returns-then-exponent-lt1022 c = bits_small c.args.bits (omega arith)
 
 -- The loop of `nearest` has a round for each place: 53 at most, since no field below 1022 comes so far.
 pub at_most_53 : (c : After-nearest-magnitude) → 1075 - field c.args.bits ≤ 53
