@@ -1,14 +1,15 @@
 //! Reads every Rattle source below the folder that it is given and lists the functions whose
 //! contract breaks a rule of the repository:
-//! - a public function has an `ensures` and no `requires`; what only the crate's own modules see,
-//!   `pub(crate)`, is not public;
+//! - a public function has an `ensures`, and no `requires` and no ghost value; what only the crate's
+//!   own modules see, `pub(crate)`, is not public;
 //! - the `ensures` of a public function are equations that settle all that it answers: one on its
-//!   result, `res ≡ ..` or, of a reference, `now res ≡ ..`, and one on what each `&mut` parameter
-//!   holds at the end, `now (x .exit) ≡ ..`. No right side mentions `res` or an `.exit`, since such an
-//!   equation may hold of every answer. `EXCEPTIONS` lists the functions that settle it otherwise;
-//! - an `ensures` names the result `res`, and no parameter is called `res` or `now`: a parameter of the
-//!   same name would be captured, and the contract would say nothing;
-//! - `≡` is that of mathlib.Core.Path, and no `ghost use` gives `⌜`, `⌝`, `∗` or `now` another meaning.
+//!   result, `result ≡ ..` or, of a reference, `result.now ≡ ..`, and one on what each `&mut` parameter
+//!   holds at the end, `x.new ≡ ..`. No right side mentions `result`, a `.new` or an `.exit`, since such
+//!   an equation may hold of every answer. `EXCEPTIONS` lists the functions that settle it otherwise;
+//! - `result` is what the function returns: no parameter, no ghost value and no variable of a clause is
+//!   called so, since the result would be captured, and the contract would say nothing;
+//! - `≡` is that of the library's Prelude or of mathlib.Core.Path, and no `ghost use` gives `⌜`, `⌝`,
+//!   `∗`, `result`, or a projection of a reference another meaning.
 //! What it cannot read is listed too, and so is an exception that no function needs.
 //! It proves nothing. The exit status is 0 only where the list is empty.
 use std::path::{Path, PathBuf};
@@ -19,17 +20,31 @@ use std::{env, fs, process};
 const EXCEPTIONS: &[(&str, &str)] = &[(
     "replay::run_to",
     "the record RanTo of replay/specs/Coded.antt has one equation for each of the two fields of the \
-     result, same-bench and same-reply, whose right sides leave the result out",
+     result, same_bench and same_reply, whose right sides leave the result out",
 )];
 
 /// The words that may stand before `fn`.
 const QUALIFIERS: [&str; 4] = ["pub", "pub(crate)", "extern", "\"C\""];
 
-const CLAUSES: [&str; 4] = ["requires", "ensures", "decreases", "ghost"];
+const CLAUSES: [&str; 3] = ["requires", "ensures", "ghost"];
+
+/// Where `≡` comes from.
+const EQUALITY: [&str; 2] = ["Rattle.std.specs.Prelude.{", "mathlib.Core.Path.{"];
+
+/// Names that no `ghost use` may give another meaning: the result, and what a reference points to.
+const READINGS: [&str; 5] = ["result", "now", "old", "new", "exit"];
 
 /// Operators of numbers, flags and lists, which a right side may have outside of brackets, since no
 /// equation can be their operand. An operator of propositions could join the equation to another.
 const OPERATORS: [&str; 10] = ["+", "*", "/", "%", "^", "+ℤ", "*ℤ", "&&", "||", "∷"];
+
+/// A clause before a body.
+struct Clause {
+    kind: String,
+    /// what stands between the kind and the brace
+    name: String,
+    text: String,
+}
 
 /// A function's head, as far as its body.
 struct Head {
@@ -37,15 +52,17 @@ struct Head {
     public: bool,
     /// names and types
     parameters: Vec<(String, String)>,
-    answers: bool,
-    /// kinds and texts
-    clauses: Vec<(String, String)>,
+    /// the type of the result, if there is one
+    answer: Option<String>,
+    clauses: Vec<Clause>,
 }
 
 impl Head {
     fn of_kind(&self, kind: &str) -> Vec<&str> {
-        let clauses = self.clauses.iter().filter(|clause| clause.0 == kind);
-        clauses.map(|clause| clause.1.as_str()).collect()
+        // a starred clause, of memory, is of its kind too
+        let is = |clause: &&Clause| clause.kind.trim_end_matches('*') == kind;
+        let clauses = self.clauses.iter().filter(is);
+        clauses.map(|clause| clause.text.as_str()).collect()
     }
 }
 
@@ -115,6 +132,7 @@ fn qualifiers(before: &str) -> Option<Vec<&str>> {
     let (mut found, mut rest) = (Vec::new(), before);
     while let Some((words, attribute)) = rest.split_once('#') {
         found.extend(words.split_whitespace());
+        let attribute = attribute.strip_prefix('!').unwrap_or(attribute);
         rest = bracketed(attribute, '[', ']')?.1;
     }
     found.extend(rest.split_whitespace());
@@ -134,8 +152,8 @@ fn parameters(text: &str) -> Vec<(String, String)> {
 }
 
 /// The clauses that stand before a function's body.
-fn clauses(mut rest: &str) -> Option<Vec<(String, String)>> {
-    let mut found = Vec::new();
+fn clauses(mut rest: &str) -> Option<Vec<Clause>> {
+    let mut found = Vec::<Clause>::new();
     loop {
         let brace = rest.find('{')?;
         let before = &rest[..brace];
@@ -144,12 +162,22 @@ fn clauses(mut rest: &str) -> Option<Vec<(String, String)>> {
             // the function has no body, and the brace is another's
             return None;
         }
-        let Some(kind) = words.iter().find(|w| CLAUSES.contains(w)) else {
+        let is_kind = |word: &&str| CLAUSES.contains(&word.trim_end_matches('*'));
+        let Some(at) = words.iter().position(is_kind) else {
             let known = found.is_empty() || words.is_empty();
             return known.then_some(found);
         };
-        let (clause, after) = bracketed(&rest[brace..], '{', '}')?;
-        found.push((kind.to_string(), clause.to_string()));
+        let name = words[at + 1..].join(" ");
+        let named = name
+            .trim_end_matches(':')
+            .chars()
+            .all(|c| in_name(c) || c == '-');
+        if !named || at > 0 && !found.is_empty() {
+            return None;
+        }
+        let (text, after) = bracketed(&rest[brace..], '{', '}')?;
+        let (kind, text) = (words[at].to_string(), text.to_string());
+        found.push(Clause { kind, name, text });
         rest = after;
     }
 }
@@ -164,11 +192,13 @@ fn head(text: &str, at: usize) -> Option<Head> {
         rest = bracketed(rest, '<', '>')?.1;
     }
     let (inner, after) = bracketed(rest, '(', ')')?;
+    let answer = after.trim_start().strip_prefix("->");
+    let kind = |answer: &str| answer.split('{').next().unwrap_or("").trim().to_string();
     Some(Head {
         name: name.to_string(),
         public: words.contains(&"pub"),
         parameters: parameters(inner),
-        answers: after.trim_start().starts_with("->"),
+        answer: answer.map(kind),
         clauses: clauses(after)?,
     })
 }
@@ -185,9 +215,10 @@ fn strange_items(text: &str) -> Vec<String> {
         .split(';')
         .filter_map(|item| item.split_once("ghost use "));
     let strange = |item: &&str| {
-        let path = item.starts_with("mathlib.Core.Path.{") && !item.contains(" as ");
-        let now = names(item).any(|name| name == "now");
-        now || item.contains(['⌜', '⌝', '∗']) || item.contains('≡') && !path
+        let known = EQUALITY.iter().any(|path| item.starts_with(path));
+        let path = known && names(item).all(|name| name != "as");
+        let read = names(item).any(|name| READINGS.contains(&name));
+        read || item.contains(['⌜', '⌝', '∗']) || item.contains('≡') && !path
     };
     let strange = items.map(|(_, item)| item).filter(strange);
     strange.map(|item| format!("ghost use {item}")).collect()
@@ -212,68 +243,86 @@ fn heads(text: &str) -> (Vec<Head>, Vec<String>) {
     (found, unread)
 }
 
-/// Whether a text mentions the result, or what a reference holds at the end.
-fn speaks(text: &str) -> bool {
-    names(text).any(|name| name == "res" || name == "exit")
+/// The text behind each place of a mark.
+fn behind<'a>(text: &'a str, mark: &'a str) -> impl Iterator<Item = &'a str> {
+    text.match_indices(mark)
+        .map(move |(at, _)| &text[at + mark.len()..])
 }
 
-/// The text of an `ensures` behind `λ res.`
-fn body(clause: &str) -> Option<&str> {
-    let clause = clause.trim_start();
-    let starts = ["λ res.", "λ _."].iter();
-    starts.copied().find_map(|start| clause.strip_prefix(start))
+/// Whether a text mentions the result, or what a reference points to at the end. `new` alone can be a
+/// parameter.
+fn speaks(text: &str, parameters: &[(String, String)]) -> bool {
+    let text = text.replace(['«', '»'], "");
+    let left = |rest: &str| names(rest.trim_start()).next() == Some("new");
+    let parameter = parameters.iter().any(|(name, _)| name == "new");
+    let said = |name: &str| name == "result" || name == "exit" || name == "new" && !parameter;
+    names(&text).any(said) || behind(&text, ".").any(left)
+}
+
+/// Whether a clause has a variable of its own that is called as the result is.
+fn captures(text: &str) -> bool {
+    let text = &text.replace(['«', '»'], "");
+    let named = |text: &str| names(text).any(|name| name == "result");
+    let first = |text: &str, ends: &[char]| text.split(ends).next().is_some_and(named);
+    let typed = |text: &str| {
+        let end = text.find([':', '(', ')', '{', '}', '=']);
+        end.is_some_and(|end| text[end..].starts_with(':') && named(&text[..end]))
+    };
+    let case = |text: &str| text.rsplit(['[', '|']).next().is_some_and(named);
+    let cases = text.split('↦').collect::<Vec<_>>();
+    behind(text, "λ").any(|text| first(text, &['.']))
+        || behind(text, "let ").any(|text| first(text, &['=', ':']))
+        || behind(text, "(").chain(behind(text, "{")).any(typed)
+        || cases[..cases.len() - 1].iter().copied().any(case)
 }
 
 /// Whether a word of a right side, outside of brackets, can only be a part of a term.
 fn is_of_a_term(word: &str) -> bool {
     let first = word.split(['(', '[', '{']).next().unwrap_or("");
-    let named = first.chars().all(|c| in_name(c) || "-'.·«»".contains(c));
+    let named = first.chars().all(|c| in_name(c) || "-'.«»".contains(c));
     word != "λ" && (named || OPERATORS.contains(&word))
 }
 
-/// The left side of an equation that settles it.
-fn equation(fact: &str) -> Option<String> {
-    let sides = pieces(fact, |c| c == '≡');
+/// The left side of a clause that is an equation which settles it.
+fn equation(head: &Head, clause: &Clause) -> Option<String> {
+    let sides = pieces(&clause.text, |c| c == '≡');
     let [left, right] = sides[..] else {
         return None;
     };
-    let left = left.replace(['«', '»'], "");
-    let left = left.split_whitespace().collect::<Vec<_>>().join(" ");
-    let place = left.strip_prefix("now (");
-    let place = place.and_then(|place| place.strip_suffix(" .exit)"));
-    let settles =
-        left == "res" || left == "now res" || place.is_some_and(|p| p.chars().all(in_name));
+    let apart = left.ends_with(char::is_whitespace) && right.starts_with(char::is_whitespace);
+    let left = left.replace(['«', '»'], "").trim().to_string();
+    let place = left.strip_suffix(".new");
+    let lent = head
+        .answer
+        .as_ref()
+        .is_some_and(|kind| kind.starts_with('&'));
+    let settles = left == "result"
+        || left == "result.now" && lent
+        || place.is_some_and(|place| place.chars().all(in_name));
     let words = pieces(right, char::is_whitespace);
     let term = words.iter().all(|word| is_of_a_term(word)) && !right.trim().is_empty();
-    (settles && term && !speaks(right)).then_some(left)
-}
-
-/// The left sides of the equations that a clause is made of.
-fn equations(clause: &str) -> Option<Vec<String>> {
-    let (mut sides, mut rest) = (Vec::new(), body(clause)?.trim());
-    loop {
-        let (fact, after) = bracketed(rest, '⌜', '⌝')?;
-        sides.push(equation(fact)?);
-        if after.trim().is_empty() {
-            return Some(sides);
-        }
-        rest = after.trim().strip_prefix('∗')?.trim();
-    }
+    let fact = apart && !clause.kind.ends_with('*');
+    (fact && settles && term && !speaks(right, &head.parameters)).then_some(left)
 }
 
 /// What the `ensures` of a public function leave open of its answer.
 fn left_open(head: &Head) -> Vec<String> {
-    let each: Option<Vec<_>> = head.of_kind("ensures").into_iter().map(equations).collect();
-    let Some(sides) = each.map(|sides| sides.concat()) else {
+    let ensures = head
+        .clauses
+        .iter()
+        .filter(|clause| clause.kind.starts_with("ensures"));
+    let each: Option<Vec<_>> = ensures.map(|clause| equation(head, clause)).collect();
+    let Some(sides) = each else {
         return vec!["has an ensures that is no equation which settles its answer".to_string()];
     };
     let mut found = Vec::new();
-    if head.answers && !sides.iter().any(|side| side == "res" || side == "now res") {
+    let of_result = |side: &String| side == "result" || side == "result.now";
+    if head.answer.is_some() && !sides.iter().any(of_result) {
         found.push("has no equation on its result".to_string());
     }
     for (name, kind) in &head.parameters {
         let written = kind.starts_with('&') && kind.split_whitespace().any(|w| w.ends_with("mut"));
-        if written && !sides.contains(&format!("now ({name} .exit)")) {
+        if written && !sides.contains(&format!("{name}.new")) {
             found.push(format!("has no equation on what {name} holds at the end"));
         }
     }
@@ -283,26 +332,37 @@ fn left_open(head: &Head) -> Vec<String> {
 fn faults(head: &Head, excepted: bool) -> Vec<String> {
     let mut found = Vec::new();
     let ensures = head.of_kind("ensures");
+    let speak = |clause: &&str| speaks(clause, &head.parameters);
     if head.public && ensures.is_empty() {
         found.push("is public and has no ensures".to_string());
     } else if head.public && !excepted {
         let open = left_open(head).into_iter();
         found.extend(open.map(|open| format!("is public and {open}")));
-    } else if head.public && !ensures.iter().all(|c| body(c).is_some_and(speaks)) {
+    } else if head.public && !ensures.iter().all(speak) {
         found.push("is public and has an ensures that is silent on its result".to_string());
     }
-    if head.public && !head.of_kind("requires").is_empty() {
-        found.push("is public and has a requires".to_string());
+    for kind in ["requires", "ghost"] {
+        if head.public && !head.of_kind(kind).is_empty() {
+            found.push(format!("is public and has a {kind}"));
+        }
     }
-    if head
-        .parameters
-        .iter()
-        .any(|(name, _)| name == "res" || name == "now")
+    let ghosts = head.clauses.iter().filter(|clause| clause.kind == "ghost");
+    let mut ghosts = ghosts.map(|clause| clause.name.trim_end_matches(':'));
+    let parameter = head.parameters.iter().any(|(name, _)| name == "result");
+    if parameter || ghosts.any(|name| name == "result") {
+        found.push("has a parameter or a ghost value called result".to_string());
+    }
+    // of an equation its form says more
+    let free = !head.public || excepted;
+    if free && head.clauses.iter().any(|clause| captures(&clause.text)) {
+        found.push("has a clause with a variable called result".to_string());
+    }
+    if free
+        && ensures
+            .iter()
+            .any(|clause| clause.trim_start().starts_with('λ'))
     {
-        found.push("has a parameter called res or now".to_string());
-    }
-    if !head.public && ensures.iter().any(|clause| body(clause).is_none()) {
-        found.push("has an ensures that does not begin with λ res.".to_string());
+        found.push("has an ensures with a name of its own for the result".to_string());
     }
     found
 }
@@ -387,20 +447,23 @@ mod tests {
     /// The faults of a public function of a number, with this fact of its result.
     fn of_fact(fact: &str) -> Vec<String> {
         said(&format!(
-            "pub fn f(x: u8) -> u8\n    ensures {{ λ res. {fact} }}\n{{\n}}\n"
+            "pub fn f(x: u8) -> u8\n    ensures {{ {fact} }}\n{{\n}}\n"
         ))
     }
 
     #[test]
     fn a_good_function_passes() {
         let good = [
-            "pub fn f(x: u8) -> u8\n    ensures { λ res. ⌜ res ≡ x ⌝ }\n{\n    x\n}\n",
-            "pub fn f(x: &mut [u8])\n    ensures { λ _. ⌜ now (x .exit) ≡ now (x .entry) ⌝ }\n{\n}\n",
-            "pub fn f(x: &[u8]) -> &[u8]\n    ensures { λ res. ⌜ now res ≡ now (x .entry) ⌝ }\n{\n}\n",
+            "pub fn f(x: u8) -> u8\n    ensures { result ≡ x }\n{\n    x\n}\n",
+            "pub fn f(x: u8) -> u8\n    ensures same { result ≡ x }\n{\n    x\n}\n",
+            "pub fn f(x: &mut [u8])\n    ensures { x.new ≡ x.old }\n{\n}\n",
+            "pub fn f(x: &[u8]) -> &[u8]\n    ensures { result.now ≡ x.now }\n{\n}\n",
             "pub(crate) fn g(x: u8) -> u8 {\n    x\n}\n",
-            "pub(crate) fn g(x: u8) -> u8\n    ensures { λ res. ⌜ res ≤ 3 ⌝ }\n{\n    x\n}\n",
-            "fn g(x: u8) -> u8\n    requires { ⌜ x < 3 ⌝ }\n    ensures { λ res. ⌜ Small x res ⌝ }\n{\n    x\n}\n",
-            "// a fn of the past\nconst A: u8 = 1;\n#[no_mangle]\npub extern \"C\" fn f() -> u8\n    ensures { λ res. ⌜ res ≡ 1 ⌝ }\n{\n}\n",
+            "pub(crate) fn g(x: u8) -> u8\n    ensures { result ≤ 3 }\n{\n    x\n}\n",
+            "fn g(x: u8) -> u8\n    requires { x < 3 }\n    ensures { Small x result }\n{\n    x\n}\n",
+            "fn g(x: u8) -> u8\n    ghost top: { ℕ }\n    requires low { x < 3 }\n    requires high { x < top }\n    ensures* { ⌜ Small x result ⌝ }\n{\n    x\n}\n",
+            "// a fn of the past\nconst A: u8 = 1;\n#[unsafe(no_mangle)]\npub extern \"C\" fn f() -> u8\n    ensures { result ≡ 1 }\n{\n}\n",
+            "#![tactic(auto)]\n#[tactic(auto, using(a_law, b_law), unfolding(f))]\npub fn f(x: u8) -> u8\n    ensures { result ≡ x }\n{\n}\n",
             "fn f<T: Fn<u8>>(a: [u8; 2]) -> [u8; 2] {\n}\n",
         ];
         for text in good {
@@ -412,18 +475,54 @@ mod tests {
     fn each_fault_is_seen() {
         let faulty = [
             "pub fn f(x: u8) -> u8 {\n    x\n}\n",
-            "pub fn f(x: u8) -> u8\n    requires { ⌜ x < 3 ⌝ }\n    ensures { λ res. ⌜ res ≡ x ⌝ }\n{\n    x\n}\n",
-            "fn f(res: u8) -> u8\n    ensures { λ res. ⌜ res ≡ res ⌝ }\n{\n    res\n}\n",
-            "fn f(r: u8) -> u8\n    ensures { λ r. ⌜ r ≡ r ⌝ }\n{\n    r\n}\n",
-            "pub fn f(r: u8) -> u8\n    ensures { λ r. ⌜ r ≡ r ⌝ }\n{\n    r\n}\n",
-            "pub fn f(x: u8) -> u8\n    ensures { λ _. ⌜ x ≡ x ⌝ }\n{\n    x\n}\n",
-            "pub fn f(x: u8) -> u8\n    ensures { λ res. ⌜ x ≡ x ⌝ }\n{\n    x\n}\n",
-            "pub(crate) fn f(res: u8) -> u8 {\n    res\n}\n",
+            "pub fn f(x: u8) -> u8\n    requires { x < 3 }\n    ensures { result ≡ x }\n{\n    x\n}\n",
+            "pub fn f(x: u8) -> u8\n    requires* { ⌜ x < 3 ⌝ }\n    ensures { result ≡ x }\n{\n    x\n}\n",
+            "pub fn f(x: u8) -> u8\n    ghost none: { ⊥ }\n    ensures { result ≡ x }\n{\n    x\n}\n",
+            "fn f(result: u8) -> u8\n    ensures { result ≡ result }\n{\n    result\n}\n",
+            "fn f(r: u8) -> u8\n    ensures { λ r. r ≡ r }\n{\n    r\n}\n",
+            "pub fn f(r: u8) -> u8\n    ensures { λ r. r ≡ r }\n{\n    r\n}\n",
+            "pub fn f(x: u8) -> u8\n    ensures { x ≡ x }\n{\n    x\n}\n",
+            "pub fn f(x: u8) -> u8\n    ensures* { ⌜ result ≡ x ⌝ }\n{\n    x\n}\n",
+            "pub(crate) fn f(result: u8) -> u8 {\n    result\n}\n",
             "pub extern \"C\" fn f(x: u8) -> u8 {\n    x\n}\n",
             "pub\nfn f(x: u8) -> u8 {\n    x\n}\n",
         ];
         for text in faulty {
             assert_eq!(said(text).len(), 1, "{text}");
+        }
+    }
+
+    #[test]
+    fn the_result_is_not_captured() {
+        let of = |clauses: &str| {
+            said(&format!(
+                "fn f(r: u8) -> u8\n    {clauses}\n{{\n    r\n}}\n"
+            ))
+        };
+        let captured = [
+            "ensures { let result = r in result ≡ r }",
+            "ensures { let result : ℕ = r in result ≡ r }",
+            "ensures { All (λ result. result ≡ result) [] }",
+            "ensures { All (λ (v, result). result ≡ v) [] }",
+            "ensures { (result : ℕ) → result ≡ result }",
+            "ensures { (k result : ℕ) × (result ≡ k) }",
+            "ensures { {result : ℕ} → result ≡ result }",
+            "ensures { elim o [ Some result ↦ result ≡ r | None ↦ r ≡ r ] }",
+            "ensures { let «result» = r in result ≡ r }",
+            "ghost result: { ℕ }\n    ensures { result ≡ r }",
+        ];
+        for clauses in captured {
+            assert_eq!(of(clauses).len(), 1, "{clauses}");
+        }
+        let free = [
+            "ensures { let half = r / 2 in result ≡ half }",
+            "ensures { (k : ℕ) → k < result → k < r }",
+            "ensures { All (λ v. v < result) [] }",
+            "ensures { elim o [ Some v ↦ result ≡ v | None ↦ result ≡ r ] }",
+            "ensures { result ≡ record { a = r } }",
+        ];
+        for clauses in free {
+            assert_eq!(of(clauses), Vec::<String>::new(), "{clauses}");
         }
     }
 
@@ -440,8 +539,10 @@ mod tests {
             "pub fn f<T(x: u8) -> u8 {\n    x\n}\n",
             "pub fn f(x: u8) -> u8\n",
             "fn f(x: u8) -> u8;\nstruct S {\n}\n",
-            "pub fn f(x: u8) -> u8\n    ensures { λ res. ⌜ res ≡ x ⌝\n",
-            "pub fn f(x: u8) -> u8\n    ensures { λ res. ⌜ res ≡ x ⌝ }\n    promises { 1 }\n{\n}\n",
+            "pub fn f(x: u8) -> u8\n    ensures { result ≡ x\n",
+            "pub fn f(x: u8) -> u8\n    ensures { result ≡ x }\n    promises { 1 }\n{\n}\n",
+            "pub fn f(x: u8) -> u8\n    ensures { result ≡ x }\n    more ensures { 1 }\n{\n}\n",
+            "pub fn f(x: u8) -> u8\n    ensures two names { result ≡ x }\n{\n}\n",
             "/* pub fn",
         ];
         for text in unread {
@@ -461,62 +562,75 @@ mod tests {
 
     #[test]
     fn the_signs_of_contracts_keep_their_meaning() {
-        let own = |item: &str| said(&format!("ghost use lib.Dec.{{eqb}};\nghost use {item};\n"));
+        let own = |item: &str| {
+            said(&format!(
+                "ghost use Rattle.low.specs.Dec.{{eqb}};\nghost use {item};\n"
+            ))
+        };
         let good = [
-            "mathlib.Core.Path.{_≡_}",
-            "mathlib.Core.Path.{_≡_, refl}",
-            "a.{known, now-is}",
+            "Rattle.std.specs.Prelude.{◌≡◌}",
+            "Rattle.std.specs.Prelude.{◌+◌, ◌≡◌, refl}",
+            "Rattle.std.specs.Prelude.{\n    ◌+◌, ◌≡◌,\n}",
+            "mathlib.Core.Path.{◌≡◌}",
+            "a.{known, now_is, renewed}",
         ];
         for item in good {
             assert_eq!(own(item), Vec::<String>::new(), "{item}");
         }
         let strange = [
-            "Rattle·low·specs.specs.Own.{_≡_}",
-            "mathlib.Core.Path.{_∙_ as _≡_}",
-            "Rattle·low·specs.specs.Own.{same as _≡_}",
-            "Rattle·low·specs.specs.Own.{⌜_⌝}",
-            "Rattle·low·specs.specs.Own.{_∗_}",
-            "Rattle·low·specs.specs.Own.{now}",
+            "Rattle.low.specs.Own.{◌≡◌}",
+            "Rattle.std.specs.Prelude.{◌≢◌ as ◌≡◌}",
+            "Rattle.std.specs.Prelude.{◌≢◌\n    as ◌≡◌}",
+            "mathlib.Core.Path.{◌∙◌ as ◌≡◌}",
+            "Rattle.low.specs.Own.{same as ◌≡◌}",
+            "Rattle.low.specs.Own.{⌜◌⌝}",
+            "Rattle.low.specs.Own.{◌∗◌}",
+            "Rattle.low.specs.Own.{result}",
+            "Rattle.low.specs.Own.{same as result}",
+            "Rattle.low.specs.Own.{◌result◌}",
+            "Rattle.low.specs.Own.{now}",
+            "Rattle.low.specs.Own.{new}",
         ];
         for item in strange {
             assert_eq!(own(item).len(), 1, "{item}");
         }
-        let text = "pub fn f(now: u8) -> u8\n    ensures { λ res. ⌜ res ≡ now ⌝ }\n{\n}\n";
-        assert_eq!(said(text).len(), 1);
     }
 
     #[test]
     fn an_equation_settles_the_result() {
         let good = [
-            "⌜ res ≡ f x .a (g x) 3 ⌝",
-            "⌜ res ≡ x +ℤ 1 ⌝",
-            "⌜ res ≡ «a_b» x' ⌝",
-            "⌜ res ≡ record { a = x } ⌝",
+            "result ≡ f x.a (g x) 3",
+            "result ≡ x +ℤ 1",
+            "result ≡ «a_b» x'",
+            "result ≡ record { a = x }",
         ];
         for fact in good {
             assert_eq!(of_fact(fact), Vec::<String>::new(), "{fact}");
         }
         let open = [
-            "⌜ res ≡ res ⌝",
-            "⌜ res ≡ f res ⌝",
-            "⌜ res ≡ f (res .a) ⌝",
-            "⌜ res ≡ f (res.a) ⌝",
-            "⌜ res ≡ f «res» ⌝",
-            "⌜ x ≡ res ⌝",
-            "⌜ f res ≡ x ⌝",
-            "⌜ res .a ≡ x ⌝",
-            "⌜ res ≤ x ⌝",
-            "⌜ res ≡ x ⊎ True ⌝",
-            "⌜ res ≡ x → True ⌝",
-            "⌜ False → res ≡ x ⌝",
-            "⌜ (res ≡ x) ⌝",
-            "⌜ (res .a ≡ x) × (res .b ≡ x) ⌝",
-            "⌜ res ≡ λ y. y ⌝",
-            "⌜ res ≡ ⌝",
-            "⌜ res ≡ x ⌝ ∨ ⌜ x ≡ x ⌝",
-            "⌜ Small x res ⌝",
-            "⌜ res ≡ x ≡ x ⌝",
-            "⌜ res ≡ x",
+            "result ≡ result",
+            "result ≡ f result",
+            "result ≡ f (result.a)",
+            "result ≡ f result.a",
+            "result ≡ f «result»",
+            "x ≡ result",
+            "f result ≡ x",
+            "result.a ≡ x",
+            "result.now ≡ x",
+            "result ≤ x",
+            "result ≡ x ⊎ True",
+            "result ≡ x → True",
+            "False → result ≡ x",
+            "(result ≡ x)",
+            "(result.a ≡ x) × (result.b ≡ x)",
+            "result ≡ λ y. y",
+            "let y = x in result ≡ y",
+            "result ≡",
+            "result ≡ x ⊎ x ≡ x",
+            "Small x result",
+            "result ≡ x ≡ x",
+            "result ≡ℤ x",
+            "⌜ result ≡ x",
         ];
         for fact in open {
             assert_eq!(of_fact(fact).len(), 1, "{fact}");
@@ -526,42 +640,63 @@ mod tests {
     #[test]
     fn an_equation_settles_what_is_written() {
         let good = [
-            "ensures { λ res. ⌜ res ≡ x ⌝ ∗ ⌜ now (y .exit) ≡ f x (now (y .entry)) ⌝ }",
-            "ensures { λ res. ⌜ res ≡ x ⌝ }\n    ensures { λ _. ⌜ now (y .exit) ≡ f x ⌝ }",
+            "ensures answer { result ≡ x }\n    ensures written { y.new ≡ f x y.old }",
+            "ensures answer { result ≡ f y.old }\n    ensures written { y.new ≡ f x }",
         ];
         for clauses in good {
             assert_eq!(of_clauses(clauses), Vec::<String>::new(), "{clauses}");
         }
+        let both = |answer: &str, written: &str| {
+            of_clauses(&format!(
+                "ensures a {{ {answer} }}\n    ensures b {{ {written} }}"
+            ))
+        };
+        assert_eq!(of_clauses("ensures { result ≡ x }").len(), 1);
+        assert_eq!(of_clauses("ensures { y.new ≡ f x }").len(), 1);
         let open = [
-            "ensures { λ res. ⌜ res ≡ x ⌝ }",
-            "ensures { λ _. ⌜ now (y .exit) ≡ f x ⌝ }",
-            "ensures { λ res. ⌜ res ≡ x ⌝ ∗ ⌜ now (y .exit) ≡ now (y .exit) ⌝ }",
-            "ensures { λ res. ⌜ res ≡ x ⌝ ∗ ⌜ now (y .exit) ≡ f res ⌝ }",
-            "ensures { λ res. ⌜ res ≡ length (now (y .exit)) ⌝ ∗ ⌜ now (y .exit) ≡ f x ⌝ }",
-            "ensures { λ res. ⌜ res ≡ x ⌝ ∗ ⌜ now (x .exit) ≡ f x ⌝ }",
+            ("result ≡ x", "y.new ≡ y.new"),
+            ("result ≡ x", "y.new ≡ f «y».«new»"),
+            ("result ≡ x", "y.new ≡ y.exit.now"),
+            ("result ≡ x", "y.new ≡ f result"),
+            ("result ≡ length y.new", "y.new ≡ f x"),
+            ("result ≡ x", "x.new ≡ f x"),
+            ("result ≡ x", "y.old ≡ f x"),
         ];
-        for clauses in open {
-            assert_eq!(of_clauses(clauses).len(), 1, "{clauses}");
+        for (answer, written) in open {
+            assert_eq!(both(answer, written).len(), 1, "{answer}, {written}");
         }
+    }
+
+    #[test]
+    fn a_parameter_can_be_called_new() {
+        let of = |fact: &str| {
+            said(&format!(
+                "pub fn f(b: u8, new: u8) -> u8\n    ensures {{ {fact} }}\n{{\n}}\n"
+            ))
+        };
+        assert_eq!(of("result ≡ f b (turn 3 new)"), Vec::<String>::new());
+        assert_eq!(of("result ≡ f b.new").len(), 1);
+        assert_eq!(of_fact("result ≡ f new").len(), 1);
     }
 
     #[test]
     fn an_exception_is_needed_and_speaks_of_the_result() {
         let file = |path: &str, fact: &str| {
-            let text =
-                format!("pub fn f(x: u8) -> u8\n    ensures {{ λ res. ⌜ {fact} ⌝ }}\n{{\n}}\n");
+            let text = format!("pub fn f(x: u8) -> u8\n    ensures {{ {fact} }}\n{{\n}}\n");
             vec![(path.to_string(), text)]
         };
         let faults = |files: &[_], name| report(files, &[(name, "")]).1;
-        let open = file("low/src/lib.rt", "Small x res");
+        let open = file("low/src/lib.rt", "Small x result");
         assert!(faults(&open, "low::f").is_empty());
         assert_eq!(faults(&open, "low::g").len(), 2);
         assert_eq!(
-            faults(&file("low/src/lib.rt", "res ≡ x"), "low::f").len(),
+            faults(&file("low/src/lib.rt", "result ≡ x"), "low::f").len(),
             1
         );
         assert_eq!(faults(&file("low/src/lib.rt", "x ≡ x"), "low::f").len(), 1);
-        let inner = file("low/src/a/b.rt", "Small x res");
+        let bound = file("low/src/lib.rt", "let result = x in Small x result");
+        assert_eq!(faults(&bound, "low::f").len(), 1);
+        let inner = file("low/src/a/b.rt", "Small x result");
         assert!(faults(&inner, "low::a::b::f").is_empty());
         assert_eq!(faults(&inner, "low::f").len(), 2);
     }
