@@ -11,7 +11,7 @@ const SPECS_LIB: (&str, &str) = ("crates/promises/specs/Lib.antt", "pub mod Prom
 const PROOFS: &str = "crates/promises/proofs/Promised.antt";
 const PROOFS_LIB: (&str, &str) = ("crates/promises/proofs/Lib.antt", "pub mod Promised");
 const SIGNATURE: &str = "pub promises : Promises";
-const USED: &str = "use Rattle·promises·specs.specs.Promises.{";
+const USED: &str = "use Rattle.promises.specs.Promises.{";
 
 /// The fields of the record, each with its statement in one line. What is added there, dropped or said
 /// otherwise is added, dropped or said otherwise here too.
@@ -19,40 +19,40 @@ const FIELDS: &[&str] = &[
     "delivered : Delivered",
     "claims : Claims",
     "reached : Reached",
-    "independent-laws : IndependentLaws",
+    "independent_laws : IndependentLaws",
     "coding : (cs : List Call) → Coding cs",
-    "guides : (speed : ℤ) (cs : List Call) → Guides (started speed .bench) cs",
-    "guides-from : (start : Bench) → sound start ≡ true → (cs : List Call) → Guides start cs",
-    "refused-pick : (b : Bench) (s : ℕ) → RefusedPick b s",
-    "keeps-sound : KeepsSound",
-    "laws-in-range : (s : ModeSet) → LawsInRange s",
-    "names-lowest : (w : ℕ) → NamesLowest w",
-    "mode-laws : ModeLaws",
-    "part-laws : PartLaws",
-    "start-laws : StartLaws",
-    "reading-laws : ReadingLaws",
-    "reading-examples : ReadingExamples",
-    "feed-laws : FeedLaws",
-    "entry-laws : EntryLaws",
-    "code-laws : CodeLaws",
-    "frame-laws : FrameLaws",
-    "frame-examples : FrameExamples",
-    "same-as-sent : SameAsSent",
-    "whole-laws : WholeLaws",
-    "whole-sheet : SheetWhole",
-    "whole-edges : Edges",
-    "rotation-laws : RotationLaws",
-    "rotation-sheet : SheetKnobs",
-    "word-laws : WordLaws",
-    "word-example : Example",
-    "number-examples : Numbers",
-    "integer-examples : Integers",
-    "value-examples : Values",
-    "pair-examples : Pairs",
-    "value-laws : ValueLaws",
-    "script-lines : Lines",
-    "line-laws : LineLaws",
-    "session-laws : SessionLaws",
+    "guides : (speed : ℤ) (cs : List Call) → Guides (started speed).bench cs",
+    "guides_from : (start : Bench) → sound start ≡ true → (cs : List Call) → Guides start cs",
+    "refused_pick : (b : Bench) (s : ℕ) → RefusedPick b s",
+    "keeps_sound : KeepsSound",
+    "laws_in_range : (s : ModeSet) → LawsInRange s",
+    "names_lowest : (w : ℕ) → NamesLowest w",
+    "mode_laws : ModeLaws",
+    "part_laws : PartLaws",
+    "start_laws : StartLaws",
+    "reading_laws : ReadingLaws",
+    "reading_examples : ReadingExamples",
+    "feed_laws : FeedLaws",
+    "entry_laws : EntryLaws",
+    "code_laws : CodeLaws",
+    "frame_laws : FrameLaws",
+    "frame_examples : FrameExamples",
+    "same_as_sent : SameAsSent",
+    "whole_laws : WholeLaws",
+    "whole_sheet : SheetWhole",
+    "whole_edges : Edges",
+    "rotation_laws : RotationLaws",
+    "rotation_sheet : SheetKnobs",
+    "word_laws : WordLaws",
+    "word_example : Example",
+    "number_examples : Numbers",
+    "integer_examples : Integers",
+    "value_examples : Values",
+    "pair_examples : Pairs",
+    "value_laws : ValueLaws",
+    "script_lines : Lines",
+    "line_laws : LineLaws",
+    "session_laws : SessionLaws",
 ];
 
 /// Words of what is taken without a proof.
@@ -76,7 +76,7 @@ fn declared(line: &str) -> Vec<&str> {
 }
 
 fn has_word(line: &str, wanted: &str) -> bool {
-    line.split(|c: char| !(c.is_alphanumeric() || c == '-'))
+    line.split(|c: char| !(c.is_alphanumeric() || c == '-' || c == '_'))
         .any(|word| word == wanted)
 }
 
@@ -200,14 +200,14 @@ mod tests {
     use crate::tests::tree;
 
     const PROOF: &str = "-- All of it. Assumes nothing.
-use mathlib.Core.Path.{_≡_}
-use Rattle·promises·specs.specs.Promises.{Promises}
+use Rattle.std.proofs.Common.{◌≡◌}
+use Rattle.promises.specs.Promises.{Promises}
 
 part : Promises → Type 0
-part p = p .delivered ≡ p .delivered
+part p = p.delivered ≡ p.delivered
 
 pub promises : Promises
-promises = record { delivered = λ (x : ℕ). x; guides-from = y }
+promises = record { delivered = λ (x : ℕ). x; guides_from = y }
 ";
 
     /// A repository that keeps the rules: its crate, its two libraries, the record and the value.
@@ -321,15 +321,15 @@ promises = record { delivered = λ (x : ℕ). x; guides-from = y }
 
     #[test]
     fn the_record_of_the_value_is_that_of_the_specs() {
-        let used = "use Rattle·promises·specs.specs.Promises.{Promises}";
+        let used = "use Rattle.promises.specs.Promises.{Promises}";
         let wrong = [
-            "use Rattle·promises·specs.specs.Promises.{Other}",
-            "use Rattle·promises·specs.specs.Other.{Promises}",
-            "use Rattle·promises·specs.specs.Promises.{Promises}\nuse Other.{Promises}",
-            "use Rattle·promises·specs.specs.Promises.{Promises, Other as Promises}",
-            "use Rattle·promises·specs.specs.Promises.{Promises}\nabbrev Promises : Type 0",
-            "use Rattle·promises·specs.specs.Promises.{Promises}\nrecord Promises : Type 0 where",
-            "use Rattle·promises·specs.specs.Promises.{Promises}\ndata Promises : Type 0 where",
+            "use Rattle.promises.specs.Promises.{Other}",
+            "use Rattle.promises.specs.Other.{Promises}",
+            "use Rattle.promises.specs.Promises.{Promises}\nuse Other.{Promises}",
+            "use Rattle.promises.specs.Promises.{Promises, Other as Promises}",
+            "use Rattle.promises.specs.Promises.{Promises}\nabbrev Promises : Type 0",
+            "use Rattle.promises.specs.Promises.{Promises}\nrecord Promises : Type 0 where",
+            "use Rattle.promises.specs.Promises.{Promises}\ndata Promises : Type 0 where",
         ];
         each_is_a_fault(used, &wrong);
     }
@@ -348,12 +348,12 @@ promises = record { delivered = λ (x : ℕ). x; guides-from = y }
             "postulate",
         ];
         for term in wrong {
-            let value = format!("guides-from = {term} ");
-            assert_eq!(changed(PROOFS, "guides-from = y ", &value), 1, "{term}");
+            let value = format!("guides_from = {term} ");
+            assert_eq!(changed(PROOFS, "guides_from = y ", &value), 1, "{term}");
         }
         assert_eq!(changed(PROOFS, "part :", "axiom it : A\npart :"), 1);
         assert_eq!(
-            changed(PROOFS, "guides-from = y ", "guides-from = lemma ac-x "),
+            changed(PROOFS, "guides_from = y ", "guides_from = lemma a_lem ac-x "),
             0
         );
         assert_eq!(changed(PROOFS, "Assumes nothing.", "Is lem needed?"), 0);
