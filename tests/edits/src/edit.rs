@@ -1,8 +1,14 @@
 //! One edit: the lines that `rt` reads of it, and what is wrong with it before it is tried.
 
-/// Words of a contract in a source of Rattle: an edit of a program leaves them alone, since a contract
-/// that was changed says nothing of the program.
-const CONTRACT: [&str; 5] = ["requires", "ensures", "ghost use", "⌜", "⌝"];
+use std::collections::BTreeMap;
+use std::ops::Range;
+
+/// Words and signs of a contract in a source of Rattle: an edit of a program leaves them alone, since a
+/// contract that was changed says nothing of the program.
+const CONTRACT: [&str; 6] = ["requires", "ensures", "ghost", "≡", "⌜", "⌝"];
+
+/// What asks for a proof in a source, which is no part of the program either.
+const PROOF: &str = "[tactic(";
 
 #[derive(Default)]
 pub struct Edit {
@@ -33,6 +39,29 @@ pub fn read(text: &str) -> Edit {
         }
     }
     edit
+}
+
+/// Where the clauses of a source stand, and what it brings in for them: each in lines of its own.
+fn contracts(source: &str) -> Vec<Range<usize>> {
+    let (mut found, mut next) = (Vec::new(), 0);
+    for line in source.split_inclusive('\n') {
+        let start = next;
+        next += line.len();
+        let word = line.trim_start().split(|c: char| !c.is_alphabetic()).next();
+        if !word.is_some_and(|word| CONTRACT[..3].contains(&word)) {
+            continue;
+        }
+        let (mut depth, mut end) = (0, source.len());
+        for (at, c) in source[start..].char_indices() {
+            depth += i32::from(c == '{') - i32::from(c == '}');
+            if depth == 0 && (c == '}' || c == ';') {
+                end = start + at + 1;
+                break;
+            }
+        }
+        found.push(start..end);
+    }
+    found
 }
 
 /// Whether two texts differ in more than spaces.
@@ -69,13 +98,39 @@ impl Edit {
             if !differ(old, new) {
                 found.push(format!("has a new text that is the old one: {new}"));
             }
-            let cites = |word: &&&str| old.contains(**word) || new.contains(**word);
-            if file.starts_with("src/") && CONTRACT.iter().find(cites).is_some() {
+            let cites = |word: &str| old.contains(word) || new.contains(word);
+            if file.starts_with("src/") && CONTRACT.iter().any(|word| cites(word)) {
                 found.push(format!("changes a contract: {old}"));
+            }
+            if file.starts_with("src/") && cites(PROOF) {
+                found.push(format!("changes a proof: {old}"));
             }
         }
         let lines = self.passed_over.iter();
         found.extend(lines.map(|line| format!("has a line that rt passes over: {line}")));
+        found
+    }
+
+    /// The old texts that stand in a contract of the crate, whose files `read` gives, and have none of its
+    /// words.
+    pub fn in_contracts(&self, read: impl Fn(&str) -> Option<String>) -> Vec<String> {
+        let (mut found, mut sources) = (Vec::new(), BTreeMap::new());
+        for (file, old, new) in &self.pairs {
+            if !file.starts_with("src/") || CONTRACT.iter().any(|word| old.contains(word)) {
+                continue;
+            }
+            let source = sources
+                .entry(file)
+                .or_insert_with(|| read(file).unwrap_or_default());
+            let Some(at) = source.find(old.as_str()) else {
+                continue;
+            };
+            let inside = |range: &Range<usize>| at < range.end && range.start < at + old.len();
+            if contracts(source).iter().any(inside) {
+                found.push(format!("changes a contract: {old}"));
+            }
+            *source = source.replacen(old.as_str(), new, 1);
+        }
         found
     }
 }
@@ -120,13 +175,41 @@ mod tests {
             "# a\nfile: src/a.rt\n",
             "# a\nfile: src/a.rt\nold: a b\nnew: a  b\n",
             "# a\nfile: src/a.rt\nold: 1\nnew: 2\nold: 3\nnew: 3\n",
-            "# a\nfile: src/a.rt\nold: ensures { λ res. 1 }\nnew: 2\n",
+            "# a\nfile: src/a.rt\nold: ensures { Small result }\nnew: 2\n",
+            "# a\nfile: src/a.rt\nold: result ≡ 1\nnew: 2\n",
             "# a\nfile: src/a.rt\nold: 1\nnew: 2 ⌝\n",
+            "# a\nfile: src/a.rt\nold: 1\nnew: #[tactic(auto, using(a))] 2\n",
             "# a\nfile: src/a.rt\nold: 1\nnew: 2\nfile:proofs/Laws.antt\n",
             "# a\nfile: src/a.rt\nold: 1\nnew: 2\nanything\n",
         ];
         for text in faulty {
             assert_eq!(read(text).faults().len(), 1, "{text}");
         }
+    }
+
+    #[test]
+    fn a_part_of_a_clause_is_seen() {
+        let source = "ghost use Rattle.a.{\n    known,\n};\nfn f(x: u8) -> u8\n    requires low { x < 3 }\n    ensures {\n        Small x result\n    }\n{\n    known(x < 4, 3)\n}\n";
+        let faults = |old: &str, new: &str| {
+            let edit = read(&format!("# a\nfile: src/a.rt\nold: {old}\nnew: {new}\n"));
+            let path = |file: &str| (file == "src/a.rt").then(|| source.to_string());
+            edit.in_contracts(path).len()
+        };
+        for old in [
+            "    known,",
+            "low { x < 3",
+            "x < 3 }",
+            "Small x result",
+            "x result",
+        ] {
+            assert_eq!(faults(old, "2"), 1, "{old}");
+        }
+        for old in ["known(x", "x < 4", "fn f(x: u8)", ", 3)", "gone"] {
+            assert_eq!(faults(old, "2"), 0, "{old}");
+        }
+        // the second text stands where the first was
+        let two = "# a\nfile: src/a.rt\nold: x < 4\nnew: y < 9\nold: y < 9\nnew: 2\nfile: src/gone.rt\nold: 1\nnew: 2\n";
+        let path = |file: &str| (file == "src/a.rt").then(|| source.to_string());
+        assert_eq!(read(two).in_contracts(path), Vec::<String>::new());
     }
 }

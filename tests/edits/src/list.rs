@@ -95,7 +95,9 @@ pub fn report(tree: &Tree) -> Report {
         let edit = edit::read(text);
         let kind = edit.kind().unwrap_or("neither");
         *counts.entry(kind).or_insert(0) += 1;
-        let each = edit.faults().into_iter();
+        let crate_name = name.split('/').next().unwrap_or("");
+        let read = |file: &str| tree.get(&format!("crates/{crate_name}/{file}")).cloned();
+        let each = edit.faults().into_iter().chain(edit.in_contracts(read));
         faults.extend(each.map(|fault| format!("{name} {fault}")));
         let said = listed.edits.get(name).map(|(said, _)| said);
         if said.is_some_and(|said| said != kind) {
@@ -222,6 +224,10 @@ edit high/two definition unfit
         let lines = LINES.replace("crate high", "edit low/new program\ncrate high");
         let added = format!("@crates/low/must-fail/new.edit\n{proof}");
         assert_eq!(faults(&lines, &added).len(), 2);
+        let source =
+            |clause: &str| format!("@crates/low/src/lib.rt\nfn f()\n    {clause}\n{{\n}}\n");
+        assert_eq!(faults(LINES, &source("requires { x < 1 }")).len(), 1);
+        assert_eq!(faults(LINES, &source("// requires { x < 1 }")).len(), 0);
     }
 
     #[test]

@@ -353,7 +353,11 @@ promises = record { delivered = λ (x : ℕ). x; guides_from = y }
         }
         assert_eq!(changed(PROOFS, "part :", "axiom it : A\npart :"), 1);
         assert_eq!(
-            changed(PROOFS, "guides_from = y ", "guides_from = lemma a_lem ac-x "),
+            changed(
+                PROOFS,
+                "guides_from = y ",
+                "guides_from = lemma a_lem ac-x "
+            ),
             0
         );
         assert_eq!(changed(PROOFS, "Assumes nothing.", "Is lem needed?"), 0);
