@@ -9,14 +9,8 @@ cd "$(dirname "$0")/.."
 
 export CARGO_NET_OFFLINE=true
 export CARGO_TARGET_DIR=$PWD/tests/target
-mkdir -p tests/target
-log=tests/target/benchmark.log
 
-echo 'proving and building the library and its program ..' >&2
-if ! rt check speed </dev/null >"$log" 2>&1; then
-    cat "$log" >&2
-    exit 1
-fi
+lessons/build speed
 echo 'building the baseline ..' >&2
 cargo build --quiet --release --manifest-path tests/Cargo.toml -p baseline
 exec tests/target/release/speed target/bin/speed "$@"

@@ -3,7 +3,7 @@
 # calls, 20,000,000 unless told otherwise, and compares every answer.
 set -eu
 cd "$(dirname "$0")/.."
-rt check console
+lessons/build
 export CARGO_NET_OFFLINE=true CARGO_TARGET_DIR=$PWD/tests/target
 cargo build --quiet --release --manifest-path tests/Cargo.toml -p compare -p second
 exec tests/target/release/compare target/bin/console tests/target/release/second \
