@@ -76,7 +76,7 @@ fn pieces(document: &str) -> Result<Vec<Piece<'_>>, String> {
 
 /// The words of a line of code but those that only say how something is declared.
 fn words(line: &str) -> Vec<&str> {
-    let skipped = "pub pub(crate) extern \"C\" abbrev unfoldable";
+    let skipped = "pub pub(crate) extern \"C\" pattern abbrev unfoldable";
     let words = line.split_whitespace();
     words
         .filter(|w| skipped.split(' ').all(|s| s != *w))
@@ -359,8 +359,8 @@ high: low
 @docs/MANUAL.md
 @crates/low/specs/Sets.antt
 -- gone : T
-abbrev pub side : N
-side x = λ (y : N). y
+abbrev pub side_of : N
+side_of x = λ (y : N). y
 @crates/low/specs/Laws.antt
 pub record Law (x : N) : Type 0 where
   pub first : N
@@ -370,17 +370,19 @@ module _ (x : N) where
 pub data D : T where
   A B : D
 @crates/low/src/lib.rt
+#[tactic(auto, using(mine))]
 pub fn said(x: u8) -> u8
-    ensures { λ res. 0 }
+    ensures same { result ≡ x }
 {
 }
 pub fn silent() {
 }
 fn hidden()
-    ensures { λ _. 0 }
+    ensures { 0 ≡ 0 }
 {
 }
 @crates/low/src/types.rt
+#[derive(Clone, Copy)]
 pub enum E {
     Off,
     On(u8),
@@ -391,7 +393,7 @@ struct S {
 }
 @crates/high/src/main.rt
 fn hidden()
-    ensures { λ _. 0 }
+    ensures { 0 ≡ 0 }
 {
 }
 @crates/low/must-fail/wrong.edit
@@ -455,25 +457,32 @@ run: random::run,
 
     #[test]
     fn names_in_a_file() {
-        let text = "`low/specs/Sets.antt`: `side`, `gone`, `y`, `low`; `D`, `law` in `low/specs/Laws.antt`";
+        let text = "`low/specs/Sets.antt`: `side_of`, `gone`, `y`, `low`; `D`, `law` in `low/specs/Laws.antt`";
         assert_eq!(faulty(text), "gone y low D law");
         assert_eq!(
-            faulty("`low/proofs/Laws.antt`: `law`, `mine`, `D`, with `B`, not `side`"),
-            "side"
+            faulty("`low/proofs/Laws.antt`: `law`, `mine`, `D`, with `B`, not `side_of`"),
+            "side_of"
         );
         assert_eq!(faulty("`D` and `law` in\n`low/proofs/Laws.antt`"), "");
         assert_eq!(
             faulty("`low/src/types.rt`: `E`, `On`, `TOP`, `S`, `field`, `u8`"),
             "u8"
         );
-        assert_eq!(faulty("| `low/specs/Sets.antt`: `side` | `side` |"), "side");
-        assert_eq!(faulty("| `low/specs/Sets.antt`: `side`; `side` |"), "side");
+        assert_eq!(
+            faulty("| `low/specs/Sets.antt`: `side_of` | `side_of` |"),
+            "side_of"
+        );
+        assert_eq!(
+            faulty("| `low/specs/Sets.antt`: `side_of`; `side_of` |"),
+            "side_of"
+        );
     }
 
     #[test]
     fn names_in_a_section_and_of_a_type() {
-        let text = "In `low/specs/Sets.antt`.\n\n| `side`, `low`, `D` |\n\n# Next\n\n| `side` |\n";
-        assert_eq!(faulty(text), "D side");
+        let text =
+            "In `low/specs/Sets.antt`.\n\n| `side_of`, `low`, `D` |\n\n# Next\n\n| `side_of` |\n";
+        assert_eq!(faulty(text), "D side_of");
         assert_eq!(faulty("`low/specs/Laws.antt`: `first` of `Law`"), "");
         assert_eq!(
             faulty("`low/src/types.rt`: `Off`, `field` and `On` of `E`"),
