@@ -43,6 +43,12 @@ type Name = (String, Option<String>);
 /// The text from the piece before up to a piece, and what stands between its backquotes.
 type Piece<'a> = (&'a str, &'a str);
 
+/// Whether `rt` makes a folder: the out/ of a crate.
+fn is_made(path: &str) -> bool {
+    let parts: Vec<&str> = path.split('/').collect();
+    matches!(parts[..], ["crates", _, "out"])
+}
+
 fn load(root: &Path, folder: &str, tree: &mut Tree) {
     let Ok(entries) = fs::read_dir(root.join(folder)) else {
         return;
@@ -52,7 +58,7 @@ fn load(root: &Path, folder: &str, tree: &mut Tree) {
         let path = format!("{folder}{name}");
         if !entry.path().is_dir() {
             tree.insert(path, fs::read_to_string(entry.path()).unwrap_or_default());
-        } else if name != "target" && name != ".git" {
+        } else if name != "target" && name != ".git" && !is_made(&path) {
             load(root, &format!("{path}/"), tree);
         }
     }

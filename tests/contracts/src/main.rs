@@ -66,13 +66,17 @@ impl Head {
     }
 }
 
-fn sources(folder: &Path, found: &mut Vec<PathBuf>) {
+/// The sources below a folder, `depth` folders below that of the crates.
+fn sources(folder: &Path, depth: usize, found: &mut Vec<PathBuf>) {
     let Ok(entries) = fs::read_dir(folder) else {
         return;
     };
     for path in entries.flatten().map(|entry| entry.path()) {
         if path.is_dir() {
-            sources(&path, found);
+            // rt makes the out/ of a crate
+            if depth != 1 || !path.ends_with("out") {
+                sources(&path, depth + 1, found);
+            }
         } else if path.extension().is_some_and(|end| end == "rt") {
             found.push(path);
         }
@@ -409,7 +413,7 @@ fn report(files: &[(String, String)], exceptions: &[(&str, &str)]) -> (usize, Ve
 fn main() {
     let folder = env::args().nth(1).unwrap_or_else(|| String::from("crates"));
     let mut paths = Vec::new();
-    sources(Path::new(&folder), &mut paths);
+    sources(Path::new(&folder), 0, &mut paths);
     paths.sort();
     let within = |path: &PathBuf| {
         let inner = path.strip_prefix(&folder).unwrap_or(path);

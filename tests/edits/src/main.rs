@@ -32,6 +32,12 @@ fn text_at(root: &Path, path: &str) -> Option<String> {
     Some(String::from_utf8_lossy(&bytes).to_string())
 }
 
+/// Whether `rt` makes a folder: the out/ of a crate.
+fn is_made(path: &str) -> bool {
+    let parts: Vec<&str> = path.split('/').collect();
+    matches!(parts[..], ["crates", _, "out"])
+}
+
 fn load(root: &Path, folder: &str, tree: &mut Tree) {
     let Ok(entries) = fs::read_dir(root.join(folder)) else {
         return;
@@ -39,7 +45,9 @@ fn load(root: &Path, folder: &str, tree: &mut Tree) {
     for entry in entries.flatten() {
         let path = format!("{folder}/{}", entry.file_name().to_string_lossy());
         if entry.path().is_dir() {
-            load(root, &path, tree);
+            if !is_made(&path) {
+                load(root, &path, tree);
+            }
         } else {
             tree.extend(text_at(root, &path).map(|text| (path, text)));
         }
