@@ -1,49 +1,11 @@
 -- Digits read one after the other make the number that they stand for. Assumes nothing.
-use Rattle.std.proofs.Common.{◌≡◌, ℕ, suc, ◌+◌, ◌-◌, ◌*◌, ◌^◌, ◌<◌, ◌≤◌, Bool, true, false, cond, ◌&&◌, ltb, leb, List, [], ◌∷◌, length, sym, refl, ap, ◌∙◌, add-zero, add_assoc, mul_assoc, mul_comm, add-mul, pow-suc, mul-one, le-mul_of_pos_right, arith, le-leb, leb-false, leb-true}
+use Rattle.std.proofs.Common.{◌≡◌, ℕ, suc, ◌+◌, ◌*◌, ◌^◌, ◌<◌, ◌≤◌, Bool, true, false, cond, ◌&&◌, ltb, leb, List, [], ◌∷◌, length, sym, refl, ap, ◌∙◌, add-zero, add_assoc, mul_assoc, mul_comm, add-mul, pow-suc, mul-one, le-mul_of_pos_right, arith, le-leb, leb-false, leb-true}
 use mathlib.Core.Bool.{and-eq-true_iff}
 use native.Mathlib.Nat.{pow-zero, pow-le-pow_right}
 use borrow.Author.Tests.{lt-leb}
 use Rattle.numerals.specs.declared.answers.Wide.TheVariants.{Is as Are, Wrong}
 use Rattle.numerals.specs.Digits.{digit_of, all_digits, numeral_value}
 use Rattle.numerals.specs.Private.{if_digits, at_most, read_on}
-
--- ---- a byte, by where it lies
-
-module _ (b : ℕ) where
-  pub digit_low : b < 48 → 16 ≡ digit_of b
-  digit_low h = rw (lt-leb 48 b h, lt-leb 65 b (omega arith), lt-leb 97 b (omega arith))
-
-  pub digit_decimal : 48 ≤ b → b ≤ 57 → b - 48 ≡ digit_of b
-  digit_decimal h k = rw (le-leb 48 b h, le-leb b 57 k)
-
-  pub digit_between : 57 < b → b < 65 → 16 ≡ digit_of b
-  digit_between h k = rw (le-leb 48 b (omega arith), lt-leb b 57 h, lt-leb 65 b k, lt-leb 97 b (omega arith))
-
-  pub digit_upper : 65 ≤ b → b ≤ 70 → b - 55 ≡ digit_of b
-  digit_upper h k = rw (le-leb 48 b (omega arith), lt-leb b 57 (omega arith), le-leb 65 b h, le-leb b 70 k)
-
-  pub digit_after : 70 < b → b < 97 → 16 ≡ digit_of b
-  digit_after h k = rw (le-leb 48 b (omega arith), lt-leb b 57 (omega arith), le-leb 65 b (omega arith), lt-leb b 70 h, lt-leb 97 b k)
-
-  pub digit_lower : 97 ≤ b → b ≤ 102 → b - 87 ≡ digit_of b
-  digit_lower h k = rw (le-leb 48 b (omega arith), lt-leb b 57 (omega arith), le-leb 65 b (omega arith), lt-leb b 70 (omega arith), le-leb 97 b h, le-leb b 102 k)
-
-  pub digit_high : 102 < b → 16 ≡ digit_of b
-  digit_high h =
-      rw (le-leb 48 b (omega arith), lt-leb b 57 (omega arith), le-leb 65 b (omega arith), lt-leb b 70 (omega arith), le-leb 97 b (omega arith), lt-leb b 102 h)
-
--- a byte of a range counts from its first on
-in_range : (low high from x b : ℕ) → high ≤ from + 16 → x ≤ 16 → cond (leb low b && leb b high) (b - from) x ≤ 16
-in_range low high from x b h l = go (leb low b) (leb b high) refl
-  where
-    go : (t u : Bool) → leb b high ≡ u → cond (t && u) (b - from) x ≤ 16
-    go true true e = omega (arith, leb-true b high e)
-    go true false e = l
-    go false u e = l
-
-pub digit_fits : (b : ℕ) → digit_of b ≤ 16
-digit_fits b =
-    in_range 48 57 48 _ b (omega arith) (in_range 65 70 55 _ b (omega arith) (in_range 97 102 87 16 b (omega arith) (omega arith)))
 
 -- ---- all digits
 

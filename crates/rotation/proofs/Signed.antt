@@ -1,15 +1,15 @@
 -- Signed numbers at 32 and 64 bits: sums, bounds and remainders. Assumes nothing.
-use mathlib.Core.Path.{◌≡◌, refl, sym, ap, ◌∙◌, subst}
-use mathlib.Core.Bool.{Bool, true, false, cond, true≢false, false≢true}
-use Prim.Native.Nat.{ℕ, zero, suc, ◌+◌, ◌-◌, ◌*◌, ◌/◌, ◌%◌, ◌^◌, ◌≤◌, ◌<◌}
+use mathlib.Core.Path.{◌≡◌, refl, sym, ◌∙◌, subst}
+use mathlib.Core.Bool.{Bool, true, false, cond, true≢false}
+use Prim.Native.Nat.{ℕ, zero, suc, ◌+◌, ◌-◌, ◌*◌, ◌%◌, ◌^◌, ◌≤◌, ◌<◌}
 use native.Mathlib.Omega.{arith}
 use borrow.Author.Tests.{ltb-true, ltb-false, leb-false}
 use lib.Dec.{T, ltb, leb, leb→le}
 use lib.IntN.{ℤ, pos, negsuc, neg_ℤ, sub_ℕ, ◌+ℤ◌, ◌-ℤ◌, ◌*ℤ◌}
-use lib.Signed.{mag, le_z, lt_z, quot_z, rem_z, mag_rem}
+use lib.Signed.{mag, le_z}
 use mir.Syntax.{Width, w32, w64}
 use mir.Val.{SFits, to_z, of_z}
-use mir.ValLaws.{to_z-of_z, to_z_pos, sfits_le}
+use mir.ValLaws.{to_z-of_z, to_z_pos}
 use Rattle.rotation.specs.Rotation.{mod_of, rotation_of}
 
 pub up : {z : ℤ} → SFits w32 z → SFits w64 z
@@ -93,58 +93,6 @@ module _ (m : ℕ) (t : T (leb m 65536)) (n : ℕ) (h : n < m) (z : ℤ) (k : T 
 
   pub small_sum_is : to_z w32 (of_z w32 (to_z w32 n +ℤ z)) ≡ pos n +ℤ z
   small_sum_is = same32 (to_z w32 n +ℤ z) small_sum_fits ∙ rw as_held
-
--- ---- the heading
-
-pub rem_neg : (z : ℤ) → lt_z (rem_z z (pos 360)) (pos 0) ≡ true → rem_z z (pos 360) +ℤ pos 360 ≡ pos (mod_of z 360)
-rem_neg (pos n) h = absurd (let l = ltb-true (n % 360) 0 h in omega arith)
-rem_neg (negsuc n) h = go (suc n % 360) refl h
-  where
-    go : (r : ℕ) → suc n % 360 ≡ r → lt_z (neg_ℤ (pos r)) (pos 0) ≡ true → neg_ℤ (pos r) +ℤ pos 360 ≡ pos (360 - suc (n % 360))
-    go zero e h = absurd (false≢true h)
-    go (suc r) e h = sub_case (λ (z : ℤ). z ≡ pos (360 - suc (n % 360))) 360 (suc r) (λ l. absurd (omega arith)) (λ l. ap pos (omega arith))
-
-pub rem_pos : (z : ℤ) → lt_z (rem_z z (pos 360)) (pos 0) ≡ false → rem_z z (pos 360) ≡ pos (mod_of z 360)
-rem_pos (pos n) h = refl
-rem_pos (negsuc n) h = go (suc n % 360) refl h
-  where
-    go : (r : ℕ) → suc n % 360 ≡ r → lt_z (neg_ℤ (pos r)) (pos 0) ≡ false → neg_ℤ (pos r) ≡ pos (360 - suc (n % 360))
-    go zero e h = ap pos (omega arith)
-    go (suc r) e h = absurd (true≢false h)
-
-quot_mag : (z : ℤ) → mag (quot_z z (pos 360)) ≤ mag z
-quot_mag (pos a) = omega arith
-quot_mag (negsuc a) = go (suc a / 360) refl
-  where
-    go : (r : ℕ) → suc a / 360 ≡ r → mag (neg_ℤ (pos r)) ≤ a
-    go zero e = omega arith
-    go (suc r) e = omega arith
-
--- a sum s of two numbers of 32 bits, as 64 bits hold it, and its remainder by 360
-abbrev pub held64 : ℤ → ℤ
-held64 s = to_z w64 (of_z w64 s)
-
-abbrev pub remainder : ℤ → ℤ
-remainder s = to_z w64 (of_z w64 (rem_z (held64 s) (pos 360)))
-
-module _ {s x y : ℤ} (e : s ≡ x +ℤ y) (h : SFits w32 x) (k : SFits w32 y) where
-  held64_is : held64 s ≡ x +ℤ y
-  held64_is = as_bits e (sum_fits x y h k)
-
-  held64_fits : SFits w64 (held64 s)
-  held64_fits = fits_as held64_is (sum_fits x y h k)
-
-  pub quot_fits : SFits w64 (quot_z (held64 s) (pos 360))
-  quot_fits = sfits_le (quot_mag (held64 s)) held64_fits
-
-  remainder_is : remainder s ≡ rem_z (x +ℤ y) (pos 360)
-  remainder_is = to_z-of_z w64 (rem_z (held64 s) (pos 360)) (sfits_le (mag_rem (held64 s) (pos 360)) held64_fits) ∙ rw held64_is
-
-  pub remainder_neg : lt_z (remainder s) (pos 0) ≡ true → remainder s +ℤ pos 360 ≡ pos (mod_of (x +ℤ y) 360)
-  remainder_neg t = rw remainder_is (rem_neg (x +ℤ y) (rw remainder_is at t))
-
-  pub remainder_pos : lt_z (remainder s) (pos 0) ≡ false → remainder s ≡ pos (mod_of (x +ℤ y) 360)
-  remainder_pos t = remainder_is ∙ rem_pos (x +ℤ y) (rw remainder_is at t)
 
 -- ---- for callers
 

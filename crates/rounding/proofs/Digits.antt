@@ -1,14 +1,13 @@
 -- What is left of a number when binary digits are dropped one at a time, and how it rounds. Assumes nothing.
-use mathlib.Core.Path.{◌≡◌, sym, ap}
+use mathlib.Core.Path.{◌≡◌, sym}
 use mathlib.Core.Bool.{Bool, true, false, ◌||◌}
-use Prim.Native.Nat.{ℕ, zero, suc, ◌+◌, ◌*◌, ◌/◌, ◌%◌, ◌^◌, ◌≤◌, ◌<◌, compare}
-use native.Mathlib.Nat.{pow-succ', mod-lt, div-one, mod-one, mul_comm, div-div-eq-div-mul, div-eq_of_lt, mod-eq_of_lt, div-le_self}
+use Prim.Native.Nat.{ℕ, zero, suc, ◌+◌, ◌*◌, ◌/◌, ◌%◌, ◌^◌, ◌<◌}
+use native.Mathlib.Nat.{pow-succ', mod-lt, div-one, mod-one, mul_comm, div-div-eq-div-mul, div-eq_of_lt, mod-eq_of_lt}
 use native.Mathlib.Numerals.{add-one}
 use native.Mathlib.Omega.{arith}
 use lib.Dec.{eqb}
 use lib.Arith.{mod-mul}
 use lib.Ieee.Nearest.{closest}
-use lib.Ieee.Fits.{nearest-le}
 use Rattle.rounding.proofs.Fraction.{by_compare}
 
 -- How the remainder r lies to the divisor p: by the last digit dropped, and by whether a digit before it was 1
@@ -55,41 +54,9 @@ dropped_more {k} {h} {s} {m} n d = rw (add-one, pow-succ' 2 n) (go (2 ^ n) d)
 
 -- ---- rounding
 
--- a number below n rounds to n at most
-pub closest_le : (a b n : ℕ) → a < n → closest a b ≤ n
-closest_le a b n h = let d = div-le_self a b in let u = nearest-le (a / b) (compare (a % b * 2) b) in omega arith
-
 -- a number below half of the divisor rounds to 0
 pub closest_zero : (a b : ℕ) → a * 2 < b → closest a b ≡ 0
 closest_zero a b h =
     let l : a < b = omega arith in
     let r = mod-eq_of_lt l in
     by_compare (λ (q : ℕ). q ≡ 0) (a / b) (a % b * 2) b (λ k. div-eq_of_lt l) (λ k. absurd (omega arith)) (λ k. absurd (omega arith))
-
-less : (s : Bool) (r p : ℕ) → 0 < p → Lies false s r p → r * 2 < p
-less false r p P l = omega arith
-less true r p P l = l.1
-
-module _ {kept m p : ℕ} {half rest : Bool} (d : Dropped kept half rest m p) where
-  -- the last digit dropped was 0: less than a half
-  pub round_down : half ≡ false → kept ≡ closest m p
-  round_down e =
-      let l = less rest (m % p) p d.above (rw e at d.remainder) in
-      by_compare (λ (q : ℕ). kept ≡ q) (m / p) (m % p * 2) p (λ k. d.whole) (λ k. absurd (omega arith)) (λ k. absurd (omega arith))
-
-  -- it was 1, and no other: a tie
-  pub round_tie : half ≡ true → rest ≡ false → kept + kept % 2 ≡ closest m p
-  round_tie e f =
-      let l = rw (e, f) at d.remainder in
-      by_compare (λ (q : ℕ). kept + kept % 2 ≡ q) (m / p) (m % p * 2) p
-      (λ k. absurd (omega arith)) (λ k. ap (λ (x : ℕ). x + x % 2) d.whole) (λ k. absurd (omega arith))
-
-  -- it was 1, and so was one before it: more than a half
-  pub round_up : half ≡ true → rest ≡ true → kept + 1 ≡ closest m p
-  round_up e f =
-      let l = rw (e, f) at d.remainder in
-      by_compare (λ (q : ℕ). kept + 1 ≡ q) (m / p) (m % p * 2) p
-      (λ k. absurd (omega arith)) (λ k. absurd (omega arith)) (λ k. let w = d.whole in omega arith)
-
-  pub kept_le : kept ≤ m
-  kept_le = rw d.whole (div-le_self m p)

@@ -15,7 +15,7 @@ use lib.Ieee.Exact.{HasValue, odd_sign}
 use lib.Ieee.Nearest.{closest, closest_same, nearest-ge}
 use Rattle.rounding.specs.declared.Whole.TheVariants.{NotFinite, Beyond, Value}
 use Rattle.rounding.specs.Whole.{signed_of, in_answer, whole_of}
-use Rattle.rounding.proofs.Digits.{closest_zero, closest_le}
+use Rattle.rounding.proofs.Digits.{closest_zero}
 
 -- a finite value of size a / c
 of_value : (x : Float) (s : Bool) (a c : ℕ) → 0 < c → HasValue x s a c → whole_of x ≡ in_answer (signed_of s (closest a c))
@@ -122,9 +122,6 @@ module _ (b : ℕ) where
 
   pub bits_middle : 1022 ≤ field → field < 1075 → in_answer (signed_of sign (closest (4503599627370496 + digits) (2 ^ (1075 - field)))) ≡ whole_of (of_bits binary64 b)
   bits_middle h k = sym (value (other field 1075 k (omega arith)) ∙ ap (λ (q : ℕ). in_answer (signed_of sign q)) (middle field digits h k))
-
-  pub bits_le : closest (4503599627370496 + digits) (2 ^ (1075 - field)) ≤ 9007199254740992
-  bits_le = closest_le (4503599627370496 + digits) (2 ^ (1075 - field)) 9007199254740992 (omega arith)
 
 -- ---- of a float
 

@@ -1,15 +1,14 @@
--- An integer as a sign and a magnitude: its order, its bounds, and what 32 and 64 bits hold of it. Assumes nothing.
-use mathlib.Core.Path.{◌≡◌, refl, sym, ◌∙◌}
+-- An integer as a sign and a magnitude: its order and its bounds. Assumes nothing.
+use mathlib.Core.Path.{◌≡◌, refl, sym}
 use mathlib.Core.Bool.{Bool, true, false, ◌&&◌, false≢true}
 use Prim.Native.Nat.{ℕ, zero, suc, ◌*◌, ◌≤◌, ◌<◌}
 use native.Mathlib.Nat.{mul-pos}
 use native.Mathlib.Omega.{arith}
 use borrow.Author.Tests.{leb-true, le-leb}
-use lib.IntN.{ℤ, pos, negsuc, neg_ℤ, nat_abs, ◌-ℤ◌, ◌*ℤ◌, +ℤ_idl, pos-ne-negsuc}
+use lib.IntN.{ℤ, pos, negsuc, neg_ℤ, nat_abs, ◌*ℤ◌, pos-ne-negsuc}
 use lib.Signed.{le_z}
-use mir.Syntax.{w32, w64}
-use mir.Val.{SFits, to_z, of_z}
-use mir.ValLaws.{to_z_pos, to_z-of_z}
+use mir.Syntax.{w32}
+use mir.Val.{SFits}
 use Rattle.rounding.specs.Whole.{signed_of, is_i32}
 
 -- ---- the order
@@ -67,22 +66,3 @@ between_fits a b (negsuc n) k l h = record { sfits = let m = leb-true n a (first
 
 pub i32_fits : (z : ℤ) → is_i32 z ≡ true → SFits w32 z
 i32_fits z h = between_fits 2147483647 2147483647 z (omega arith) (omega arith) h
-
--- ---- the negation of a magnitude up to 2 ^ 53, as 64 bits hold it
-
-module _ (n : ℕ) (h : n ≤ 9007199254740992) where
-  pub pos_stored : to_z w64 n ≡ pos n
-  pos_stored = to_z_pos w64 n (omega arith)
-
-  negated : pos 0 -ℤ to_z w64 n ≡ neg_ℤ (pos n)
-  negated = rw pos_stored (+ℤ_idl (neg_ℤ (pos n)))
-
-  pub neg_fits : SFits w64 (pos 0 -ℤ to_z w64 n)
-  neg_fits = rw negated (go n h)
-    where
-      go : (n : ℕ) → n ≤ 9007199254740992 → SFits w64 (neg_ℤ (pos n))
-      go zero h = record { sfits = omega arith }
-      go (suc n) h = record { sfits = omega arith }
-
-  pub neg_stored : to_z w64 (of_z w64 (pos 0 -ℤ to_z w64 n)) ≡ neg_ℤ (pos n)
-  neg_stored = to_z-of_z w64 (pos 0 -ℤ to_z w64 n) neg_fits ∙ negated
