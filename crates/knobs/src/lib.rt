@@ -8,13 +8,13 @@ ghost use Rattle.bench.specs.Sides.{where_acting};
 ghost use Rattle.knobs.specs.Knobs.{counted, moved, referred, reference_moved, pitched, differ, wheel_turned, altitude_moved, altitude_turned, heading_moved, heading_turned, knob_turned, turned};
 
 use bench::parts::{
-    HEADING, IAS, PITCH, PRESELECTED, VERTICAL_SPEED, box_of, reference_at, with_box,
-    with_reference,
+    HEADING, IAS, PRESELECTED, VERTICAL_SPEED, box_of, reference_at, with_box, with_reference,
 };
 use bench::{Bench, References, side_acts};
 use modes::ModeSet;
 
 // The bench with a knob's new count.
+#[tactic(auto, unfolding(crate::specs::Knobs::counted))]
 fn count(b: Bench, knob: u32, n: u8) -> Bench
     ensures { result ≡ counted knob n b }
 {
@@ -32,6 +32,7 @@ fn move_at(r: References, place: u32, amount: i32) -> References
 }
 
 // The bench with other references on a side.
+#[tactic(auto, unfolding(crate::specs::Knobs::referred))]
 fn refer(b: Bench, side: u32, references: References) -> Bench
     ensures { result ≡ referred references side b }
 {
@@ -58,6 +59,7 @@ fn pitch_in(s: ModeSet) -> ModeSet
 }
 
 // PITCH engages on a side, with entry.
+#[tactic(auto, unfolding(crate::specs::Knobs::pitched))]
 fn engage_pitch_on(b: Bench, side: u32) -> Bench
     ensures { result ≡ pitched side b }
 {
@@ -76,7 +78,7 @@ fn turn_wheel(b: Bench, side: u32, amount: i32) -> Bench
     let law = modes::numbers::vertical_law(set);
     match law {
         0 => b,
-        1 => move_reference(b, side, PITCH, amount),
+        1 => move_reference(b, side, bench::parts::PITCH, amount),
         2 => move_reference(b, side, VERTICAL_SPEED, amount),
         7 => b,
         _ => engage_pitch_on(b, side),
@@ -123,6 +125,7 @@ fn in_altsel(s: ModeSet) -> bool
 }
 
 // The preselected altitude moves; if it is another one then, PITCH ends an engaged ALTSEL.
+#[tactic(auto, unfolding(crate::specs::Knobs::altitude_turned))]
 fn turn_altitude(b: Bench, side: u32, amount: i32) -> Bench
     requires { mag amount < 128 }
     ensures { result ≡ altitude_turned amount side b }
@@ -141,6 +144,7 @@ fn turn_altitude(b: Bench, side: u32, amount: i32) -> Bench
     }
 }
 
+#[tactic(auto, unfolding(crate::specs::Knobs::heading_moved))]
 fn move_heading(r: References, amount: i32) -> References
     ensures { result ≡ heading_moved amount r }
 {
@@ -160,6 +164,7 @@ fn turn_heading(b: Bench, side: u32, amount: i32) -> Bench
 }
 
 // A rotation of a knob, on a side.
+#[tactic(auto, unfolding(crate::specs::Knobs::knob_turned))]
 fn turn_knob(b: Bench, knob: u32, amount: i32, side: u32) -> Bench
     requires { mag amount < 128 }
     ensures { result ≡ knob_turned knob amount side b }
@@ -186,6 +191,7 @@ fn where_acting(b: Bench, knob: u32, amount: i32, side: u32) -> Bench
 }
 
 // The bench after an accepted turn. The same count again does nothing.
+#[tactic(auto, unfolding(crate::specs::Knobs::turned))]
 pub fn turn_to(b: Bench, knob: u32, new: u8) -> Bench
     ensures { result ≡ turned knob new b }
 {
