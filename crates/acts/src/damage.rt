@@ -7,6 +7,7 @@ use bench::parts::{box_of, with_box};
 use bench::{Bench, Reading, Readings};
 use modes::ModeSet;
 
+#[tactic(auto, unfolding(crate::specs::Damage::pf_damaged))]
 pub(crate) fn damage_pf(b: Bench, n: u32) -> Bench
     ensures { result ≡ pf_damaged n b }
 {
@@ -14,6 +15,7 @@ pub(crate) fn damage_pf(b: Bench, n: u32) -> Bench
     bench::parts::with_shared(b, bench::parts::with_pf(was, n))
 }
 
+#[tactic(auto, unfolding(crate::specs::Damage::set_damaged))]
 pub(crate) fn damage_set(b: Bench, number: u32, set: ModeSet) -> Bench
     ensures { result ≡ set_damaged number set b }
 {
@@ -31,6 +33,7 @@ pub(crate) fn damage_reference(b: Bench, number: u32, place: u32, x: i32) -> Ben
 }
 
 // The readings with one of them replaced, whatever it is.
+#[tactic(auto, unfolding(bench::specs::Readings::stored))]
 fn store(w: Readings, r: Reading) -> Readings
     ensures { result ≡ stored r w }
 {
@@ -64,6 +67,7 @@ fn store(w: Readings, r: Reading) -> Readings
 }
 
 // The float alone: its whole value stays what it was.
+#[tactic(auto, unfolding(crate::specs::Damage::reading_damaged))]
 pub(crate) fn damage_reading(b: Bench, r: Reading) -> Bench
     ensures { result ≡ reading_damaged r b }
 {

@@ -49,6 +49,7 @@ fn bench_alone(bench: Bench) -> EventAnswer
 }
 
 // The turn of a knob by so many clicks, modulo 256, from its last count.
+#[tactic(auto, unfolding(crate::specs::Acts::clicked))]
 fn click(b: Bench, knob: u32, clicks: u8) -> Answer
     ensures { result ≡ clicked knob clicks b }
 {
@@ -105,6 +106,7 @@ pub fn effect_of(c: Command) -> Effect
 // The answer to a command: its refusal, the event acted on or 32, and the bench. What only shows
 // leaves the bench, and is asked for where its line is written. So do the commands of the bus area, which the
 // bench takes no part in.
+#[tactic(auto, unfolding(crate::specs::Acts::answer_to))]
 pub fn answer_to(b: Bench, c: Command) -> EventAnswer
     ensures { result ≡ answer_to c b }
 {

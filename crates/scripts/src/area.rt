@@ -6,6 +6,7 @@ use crate::places::{ends_at, number_at, side_at};
 use crate::{Command, NO_LENGTH, NO_PAIRS, NO_SIDE, NO_START};
 use numerals::answers::{Number, Wide};
 
+#[tactic(auto, unfolding(crate::specs::Commands::area_of_length))]
 pub(crate) fn area(text: &[u8]) -> Command
     ensures { result ≡ area_of_length text.now }
 {
@@ -17,6 +18,7 @@ pub(crate) fn area(text: &[u8]) -> Command
 }
 
 // Word n as a place in the area. Whether it lies inside is for who holds the area.
+#[tactic(auto, unfolding(crate::specs::Commands::start_at))]
 fn start_at(text: &[u8], n: usize) -> Wide
     ensures { result ≡ start_at text.now n }
 {
@@ -24,6 +26,7 @@ fn start_at(text: &[u8], n: usize) -> Wide
 }
 
 // The bytes of word 2 from a place on.
+#[tactic(auto, unfolding(crate::specs::Commands::poke_by))]
 fn poke_by(start: u64, text: &[u8]) -> Command
     ensures { result ≡ poke_by start text.now }
 {
@@ -33,6 +36,7 @@ fn poke_by(start: u64, text: &[u8]) -> Command
     Command::Wrong(NO_PAIRS)
 }
 
+#[tactic(auto, unfolding(crate::specs::Commands::poke_of))]
 pub(crate) fn poke(text: &[u8]) -> Command
     ensures { result ≡ poke_of text.now }
 {
@@ -44,6 +48,7 @@ pub(crate) fn poke(text: &[u8]) -> Command
 }
 
 // The frame of a side from the place that word 2 is.
+#[tactic(auto, unfolding(crate::specs::Commands::write_by))]
 fn write_by(side: u32, text: &[u8]) -> Command
     ensures { result ≡ write_by side text.now }
 {
@@ -54,6 +59,7 @@ fn write_by(side: u32, text: &[u8]) -> Command
     }
 }
 
+#[tactic(auto, unfolding(crate::specs::Commands::write_of))]
 pub(crate) fn write(text: &[u8]) -> Command
     ensures { result ≡ write_of text.now }
 {
@@ -64,6 +70,7 @@ pub(crate) fn write(text: &[u8]) -> Command
     }
 }
 
+#[tactic(auto, unfolding(crate::specs::Commands::read_of))]
 pub(crate) fn read(text: &[u8]) -> Command
     ensures { result ≡ read_of text.now }
 {

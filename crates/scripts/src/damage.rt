@@ -26,6 +26,7 @@ fn damage_reading(text: &[u8]) -> Command
     }
 }
 
+#[tactic(auto, unfolding(crate::specs::Commands::damage_pf))]
 fn damage_pf(text: &[u8]) -> Command
     ensures { result ≡ damage_pf text.now }
 {
@@ -36,6 +37,7 @@ fn damage_pf(text: &[u8]) -> Command
     }
 }
 
+#[tactic(auto, unfolding(crate::specs::Commands::damage_independent))]
 fn damage_independent(text: &[u8]) -> Command
     ensures { result ≡ damage_independent text.now }
 {
@@ -47,6 +49,7 @@ fn damage_independent(text: &[u8]) -> Command
 }
 
 // The number that a word is, or one that is above all numbers of 32 bits.
+#[tactic(auto, unfolding(crate::specs::Commands::figure_at))]
 fn figure(text: &[u8], n: usize) -> u64
     ensures { result ≡ figure_at text.now n }
 {
@@ -73,6 +76,7 @@ fn gives_on(lateral: u64, armed: u64, vertical: u64, vappr: u64) -> bool
 }
 
 // The set of four numbers.
+#[tactic(auto, unfolding(crate::specs::Commands::set_by))]
 fn set_by(lateral: u64, armed: u64, vertical: u64, vappr: u64) -> Given
     ensures { result ≡ set_by lateral armed vertical vappr }
 {
@@ -85,6 +89,7 @@ fn set_by(lateral: u64, armed: u64, vertical: u64, vappr: u64) -> Given
     Given::Wrong
 }
 
+#[tactic(auto, unfolding(crate::specs::Commands::damage_set))]
 fn damage_set(text: &[u8], part: u32) -> Command
     ensures { result ≡ damage_set part text.now }
 {
@@ -110,6 +115,7 @@ fn number_by(part: u32, place: u32, x: i32) -> Command
     }
 }
 
+#[tactic(auto, unfolding(crate::specs::Commands::damage_number))]
 fn damage_number(text: &[u8], part: u32, place: u32) -> Command
     ensures { result ≡ damage_number part place text.now }
 {
@@ -121,6 +127,7 @@ fn damage_number(text: &[u8], part: u32, place: u32) -> Command
 }
 
 // Damage to a box: one of its references, or its set.
+#[tactic(auto, unfolding(crate::specs::Commands::damage_part))]
 fn damage_part(what: usize, part: u32, text: &[u8]) -> Command
     ensures { result ≡ damage_part what part text.now }
 {
@@ -133,6 +140,7 @@ fn damage_part(what: usize, part: u32, text: &[u8]) -> Command
     Command::Wrong(NO_REFERENCE)
 }
 
+#[tactic(auto, unfolding(crate::specs::Commands::part_names))]
 fn damage_box(part: u32, text: &[u8]) -> Command
     ensures { result ≡ damage_part (lookup_of (word_of text.now 2) part_names 8) part text.now }
 {
@@ -141,6 +149,7 @@ fn damage_box(part: u32, text: &[u8]) -> Command
     damage_part(what, part, text)
 }
 
+#[tactic(auto, unfolding(crate::specs::Commands::damage_whole))]
 fn damage_whole(text: &[u8]) -> Command
     ensures { result ≡ damage_whole text.now }
 {
@@ -152,6 +161,7 @@ fn damage_whole(text: &[u8]) -> Command
 }
 
 // What is damaged: a box, a whole value, a reading, the pilot flying or independent operation.
+#[tactic(auto, unfolding(crate::specs::Commands::damage_by))]
 fn damage_by(what: usize, text: &[u8]) -> Command
     ensures { result ≡ damage_by what text.now }
 {
@@ -167,6 +177,7 @@ fn damage_by(what: usize, text: &[u8]) -> Command
     }
 }
 
+#[tactic(auto, unfolding(crate::specs::Commands::damage_names))]
 pub(crate) fn damage(text: &[u8]) -> Command
     ensures { result ≡ damage_by (lookup_of (word_of text.now 1) damage_names 8) text.now }
 {

@@ -105,6 +105,7 @@ pub const NO_FLAG: u32 = 24;
 
 pub const NO_SPEED: u32 = 25;
 
+#[tactic(auto, unfolding(crate::specs::Commands::event_of))]
 fn event(text: &[u8]) -> Command
     ensures { result ≡ event_of text.now }
 {
@@ -127,6 +128,7 @@ fn side_by(command: usize, n: u32) -> Command
 }
 
 // A command with a side.
+#[tactic(auto, unfolding(crate::specs::Commands::with_side))]
 fn of_side(command: usize, text: &[u8]) -> Command
     ensures { result ≡ with_side command text.now }
 {
@@ -138,6 +140,7 @@ fn of_side(command: usize, text: &[u8]) -> Command
 }
 
 // A knob by its name, or by a number of at most `most`.
+#[tactic(auto, unfolding(crate::specs::Commands::knob_names, crate::specs::Commands::knob_at))]
 fn knob_at(text: &[u8], most: u32) -> Number
     ensures { result ≡ knob_at text.now most }
 {
@@ -150,6 +153,7 @@ fn knob_at(text: &[u8], most: u32) -> Number
 }
 
 // The turn of a knob to the count that word 2 is.
+#[tactic(auto, unfolding(crate::specs::Commands::turn_by))]
 fn turn_by(knob: u32, text: &[u8]) -> Command
     ensures { result ≡ turn_by knob text.now }
 {
@@ -163,6 +167,7 @@ fn turn_by(knob: u32, text: &[u8]) -> Command
     }
 }
 
+#[tactic(auto, unfolding(crate::specs::Commands::turn_of))]
 fn turn(text: &[u8]) -> Command
     ensures { result ≡ turn_of text.now }
 {
@@ -174,6 +179,7 @@ fn turn(text: &[u8]) -> Command
 }
 
 // The turn of a knob by the clicks that word 2 is.
+#[tactic(auto, unfolding(crate::specs::Commands::clicks_by))]
 fn clicks_by(knob: u32, text: &[u8]) -> Command
     ensures { result ≡ clicks_by knob text.now }
 {
@@ -187,6 +193,7 @@ fn clicks_by(knob: u32, text: &[u8]) -> Command
     }
 }
 
+#[tactic(auto, unfolding(crate::specs::Commands::clicks_of))]
 fn clicks(text: &[u8]) -> Command
     ensures { result ≡ clicks_of text.now }
 {
@@ -229,6 +236,7 @@ fn word_of(n: usize) -> u32
 }
 
 // Event n, if it is one of those that the command takes; else what is wrong.
+#[tactic(auto, unfolding(crate::specs::Commands::event_if))]
 fn event_if(taken: bool, why: u32, n: usize, text: &[u8]) -> Command
     requires { taken ≡ true → n < 21 }
     ensures { result ≡ event_if taken why n text.now }
@@ -253,6 +261,7 @@ fn signal(text: &[u8]) -> Command
     event_if(is_signal(n), NO_SIGNAL, n, text)
 }
 
+#[tactic(auto, unfolding(crate::specs::Commands::watch_names, crate::specs::Commands::watch_by))]
 fn watch(text: &[u8]) -> Command
     ensures { result ≡ watch_by (lookup_of (word_of text.now 1) watch_names 2) text.now }
 {
@@ -273,6 +282,7 @@ fn reading(text: &[u8]) -> Command
     }
 }
 
+#[tactic(auto, unfolding(crate::specs::Commands::start_of))]
 fn start(text: &[u8]) -> Command
     ensures { result ≡ start_of text.now }
 {
@@ -284,6 +294,7 @@ fn start(text: &[u8]) -> Command
 }
 
 // The command of a number, from the words of a text.
+#[tactic(auto, unfolding(crate::specs::Commands::command_by))]
 fn command_by(command: usize, text: &[u8]) -> Command
     ensures { result ≡ command_by command text.now }
 {
@@ -311,6 +322,7 @@ fn command_by(command: usize, text: &[u8]) -> Command
     }
 }
 
+#[tactic(auto, unfolding(crate::specs::Commands::command_names, crate::specs::Commands::command_in))]
 fn command_in(text: &[u8]) -> Command
     ensures { result ≡ command_in text.now }
 {
@@ -333,6 +345,7 @@ fn text_of(line: &[u8]) -> &[u8]
 }
 
 // The command of a line.
+#[tactic(auto, unfolding(crate::specs::Commands::command_of))]
 pub fn command_of(line: &[u8]) -> Command
     ensures { result ≡ command_of line.now }
 {
@@ -340,6 +353,7 @@ pub fn command_of(line: &[u8]) -> Command
 }
 
 // The word of a line that holds the bytes of a `Poke`, as pairs of digits.
+#[tactic(auto, unfolding(crate::specs::Commands::pairs_of))]
 pub fn pairs_of(line: &[u8]) -> &[u8]
     ensures { result.now ≡ pairs_of line.now }
 {

@@ -14,6 +14,7 @@ pub(crate) enum Named {
 }
 
 // What is asked, if a text has no word behind its first n.
+#[tactic(auto, unfolding(crate::specs::Commands::ends_at))]
 pub(crate) fn ends_at(text: &[u8], n: usize, asked: Command) -> Command
     ensures { result ≡ ends_at text.now n asked }
 {
@@ -33,6 +34,7 @@ pub(crate) fn number_at(text: &[u8], n: usize, most: u32) -> Number
 }
 
 // A word as one of so many names, or else as a number of at most `most`.
+#[tactic(auto, unfolding(crate::specs::Commands::named_in))]
 pub(crate) fn name_or_number(w: &[u8], names: &[u8], total: usize, most: u32) -> Number
     requires { total < 256 }
     ensures { result ≡ named_in names.now total most w.now }
@@ -45,6 +47,7 @@ pub(crate) fn name_or_number(w: &[u8], names: &[u8], total: usize, most: u32) ->
 }
 
 // Word 1 as a side, by its name or by a number.
+#[tactic(auto, unfolding(crate::specs::Commands::side_names, crate::specs::Commands::side_at))]
 pub(crate) fn side_at(text: &[u8]) -> Number
     ensures { result ≡ side_at text.now }
 {
@@ -74,6 +77,7 @@ fn reading_by(kind: usize, value: Value) -> Named
 }
 
 // The number of the kind that word n names; 6 where it names none.
+#[tactic(auto, unfolding(crate::specs::Commands::kind_names, crate::specs::Commands::kind_at))]
 pub(crate) fn kind_at(text: &[u8], n: usize) -> usize
     ensures { result ≡ kind_at text.now n }
 {
@@ -82,6 +86,7 @@ pub(crate) fn kind_at(text: &[u8], n: usize) -> usize
 }
 
 // The reading of KIND VALUE, the words n and n + 1.
+#[tactic(auto, unfolding(crate::specs::Commands::reading_at))]
 pub(crate) fn reading_at(text: &[u8], n: usize) -> Named
     requires { n < 255 }
     ensures { result ≡ reading_at text.now n }

@@ -98,6 +98,7 @@ fn carry_out(s: Session, command: Command, text: &[u8], store: &mut [u8]) -> Tak
 }
 
 // The command of a line of n bytes. One that fills its room is longer than a line may be.
+#[tactic(auto, unfolding(crate::specs::Sessions::line_command))]
 fn command_of_line(line: &[u8], n: usize) -> Command
     ensures { result ≡ line_command n line.now }
 {
@@ -145,6 +146,7 @@ fn go_on(s: Session, length: usize) -> Taken
 }
 
 // One byte more of the script.
+#[tactic(auto, unfolding(crate::specs::Sessions::byte_taken, crate::specs::Sessions::room_after, crate::specs::Sessions::store_after))]
 pub fn take_byte(s: Session, byte: u8, line: &mut [u8; 256], area: &mut [u8; 2048]) -> Taken
     ensures answer { result ≡ byte_taken s line.old area.old byte }
     ensures new_line { line.new ≡ room_after s line.old byte }
@@ -157,6 +159,7 @@ pub fn take_byte(s: Session, byte: u8, line: &mut [u8; 256], area: &mut [u8; 204
 }
 
 // The script's end. A last line without a line end is carried out.
+#[tactic(auto, unfolding(crate::specs::Sessions::script_ended, crate::specs::Sessions::store_ended))]
 pub fn end_script(s: Session, line: &[u8; 256], area: &mut [u8; 2048]) -> Taken
     ensures answer { result ≡ script_ended s line.now area.old }
     ensures new_area { area.new ≡ store_ended s line.now area.old }
