@@ -52,6 +52,7 @@ fn word_refusal(word: u32) -> u32
 
 // What an accepted call leaves: independent operation is off where a side is without LAPPR or VAPPR
 // engaged.
+#[tactic(auto, unfolding(bench::specs::Independent::ended))]
 fn end_independent(b: Bench) -> Bench
     ensures { result ≡ ended b }
 {
@@ -154,6 +155,7 @@ pub fn reading(b: Bench, r: bench::Reading) -> Answer
     }
 }
 
+#[tactic(auto, unfolding(crate::specs::Sends::sent))]
 fn post(b: Bench, side: u32) -> Bench
     ensures { result ≡ sent side b }
 {
@@ -173,6 +175,7 @@ pub fn send(b: Bench, side: u32) -> Answer
 }
 
 // A side takes over the set and the references of a box; its flight director stays.
+#[tactic(auto, unfolding(crate::specs::Sends::taken))]
 fn take(b: Bench, side: u32, source: u32) -> Bench
     ensures { result ≡ taken source side b }
 {
@@ -191,6 +194,7 @@ fn refresh_source(side: u32) -> u32
     inbox_of(side)
 }
 
+#[tactic(auto, unfolding(crate::specs::Sends::refreshed))]
 fn renew(b: Bench, side: u32) -> Bench
     ensures { result ≡ refreshed side b }
 {
@@ -224,6 +228,7 @@ fn pf_lamp(pf: u32) -> u32
 }
 
 // The mode lamps of a side, 64 for AP, and 128 or 256 for the side that has PF.
+#[tactic(auto, unfolding(crate::specs::Displays::lamps))]
 fn lamps_of(b: Bench, side: u32) -> u32
     ensures { result ≡ lamps b side }
 {
@@ -236,6 +241,7 @@ fn lamps_of(b: Bench, side: u32) -> u32
     modes_lit + ap + pf
 }
 
+#[tactic(auto, unfolding(crate::specs::Displays::shown))]
 fn show(b: Bench, side: u32) -> Display
     ensures { result ≡ shown b side }
 {
