@@ -1,5 +1,5 @@
 -- `poke`: bytes that lie inside the area are put into the part from the start on, and the part comes back (`put_poked`).
-use Rattle.std.proofs.Common.{◌≡◌, ℕ, List, sym, ap, ◌∙◌}
+use Rattle.std.proofs.Common.{ℕ, List, sym, ap, ◌∙◌}
 use Rattle.numerals.specs.Pairs.{pair_bytes, laid_over}
 use Rattle.frames.proofs.Areas.{from}
 use Rattle.areas.specs.Areas.{poked_bytes, poked}
