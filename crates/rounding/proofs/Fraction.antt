@@ -1,4 +1,4 @@
--- `closest` of lib.Ieee.Nearest is the one natural number that `IsNearest` describes: by how the division's remainder lies to a half,
+-- `closest` of Rattle.std.specs.Float.Ieee.Nearest is the one natural number that `IsNearest` describes: by how the division's remainder lies to a half,
 -- and as two such numbers cannot differ. Assumes nothing.
 use mathlib.Core.Path.{◌≡◌, refl, subst}
 use mathlib.Core.Bool.{not}

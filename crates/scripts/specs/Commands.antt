@@ -159,7 +159,7 @@ if_signed Signed.Wrong ask other = other
 unfoldable pub event_of : List ℕ → Command
 event_of text = if_number (number_at text 1 4294967295) (λ n. ends_at text 2 (Command.Event n)) (Command.Wrong no_word)
 
--- send SIDE, refresh SIDE, display SIDE, pick SIDE, by the number of a name of commandNames
+-- send SIDE, refresh SIDE, display SIDE, pick SIDE, by the number of a name of command_names
 abbrev pub side_by : ℕ → ℕ → Command
 side_by command n =
     cond (eqb command 1) (Command.Send n)
@@ -306,7 +306,7 @@ number_by part place x = cond (eqb part 4) (Command.DamageWhole place x) (Comman
 unfoldable pub damage_number : ℕ → ℕ → List ℕ → Command
 damage_number part place text = if_signed (signed_in (word_of text 3)) (λ x. ends_at text 4 (number_by part place x)) (Command.Wrong no_signed)
 
--- by the number of a name of partNames
+-- by the number of a name of part_names
 unfoldable pub damage_part : ℕ → ℕ → List ℕ → Command
 damage_part what box text =
     cond (ltb what 7) (damage_number box what text)
@@ -317,7 +317,7 @@ damage_part what box text =
 unfoldable pub damage_whole : List ℕ → Command
 damage_whole text = cond (ltb (kind_at text 2) 6) (damage_number 4 (kind_at text 2) text) (Command.Wrong no_kind)
 
--- by the number of a name of damageNames
+-- by the number of a name of damage_names
 unfoldable pub damage_by : ℕ → List ℕ → Command
 damage_by what text =
     cond (ltb what 4) (damage_part (lookup_of (word_of text 2) part_names 8) what text)
@@ -361,7 +361,7 @@ read_of text = if_start (start_at text 1) (λ start. ends_at text 2 (Command.Rea
 
 -- ---- commands
 
--- by the number of a name of commandNames: the table of commands
+-- by the number of a name of command_names: the table of commands
 unfoldable pub command_by : ℕ → List ℕ → Command
 command_by command text =
     cond (eqb command 0) (event_of text)
