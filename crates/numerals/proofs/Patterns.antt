@@ -3,7 +3,7 @@ use Rattle.std.proofs.Common.{◌≡◌, ℕ, ◌^◌, ◌<◌, Bool, true, fals
 use native.Mathlib.Nat.{pow-succ', pow-zero}
 use lib.Arith.{digits_lt}
 use lib.Ieee.{nan, inf, binary64, div, neg, of_bits}
-use Rattle.numerals.specs.declared.answers.Wide.TheVariants.{Is as Are, Wrong as None}
+use Rattle.numerals.specs.declared.answers.Wide.TheVariants.{Is as Are, Wrong as NoWide}
 use Rattle.numerals.specs.declared.answers.Value.{Value}
 use Rattle.numerals.specs.declared.answers.Value.TheVariants.{Is, Wrong}
 use Rattle.numerals.specs.Digits.{digit_of, all_digits, numeral_value}
@@ -37,10 +37,10 @@ number_below base (b ∷ w) h =
     rw (pow-succ' base (length w)) (digits_lt (ltb-true (digit_of b) base t.0) (number_below base w t.1))
 
 -- 16 hexadecimal digits are never too many for 64 bits
-hex : (v : List ℕ) → length v ≡ 16 → read_on 16 18446744073709551615 0 v ≡ cond (all_digits 16 v) (Are (numeral_value 16 v)) None
+hex : (v : List ℕ) → length v ≡ 16 → read_on 16 18446744073709551615 0 v ≡ cond (all_digits 16 v) (Are (numeral_value 16 v)) NoWide
 hex v h = rw (read_is 16 18446744073709551615 0 v (omega arith) (omega arith), from_zero 16 (numeral_value 16 v) v) (go (all_digits 16 v) refl)
   where
-    go : (t : Bool) → all_digits 16 v ≡ t → at_most 18446744073709551615 t (numeral_value 16 v) ≡ cond t (Are (numeral_value 16 v)) None
+    go : (t : Bool) → all_digits 16 v ≡ t → at_most 18446744073709551615 t (numeral_value 16 v) ≡ cond t (Are (numeral_value 16 v)) NoWide
     go false e = refl
     go true e =
         let l : numeral_value 16 v < 16 ^ 16 = rw h at (number_below 16 v e) in

@@ -4,7 +4,7 @@ use Rattle.std.specs.Float.{binary64}
 use Rattle.std.specs.Float.Ieee.{neg, round}
 use Rattle.numerals.specs.Digits.{digit_of}
 use Rattle.numerals.specs.declared.answers.Wide.{Wide}
-use Rattle.numerals.specs.declared.answers.Wide.TheVariants.{Is as Are, Wrong as None}
+use Rattle.numerals.specs.declared.answers.Wide.TheVariants.{Is as Are, Wrong as NoWide}
 use Rattle.numerals.specs.Numbers.{wide_in}
 use Rattle.numerals.specs.declared.answers.Value.{Value}
 use Rattle.numerals.specs.declared.answers.Value.TheVariants.{Is, Wrong}
@@ -12,11 +12,11 @@ use Rattle.numerals.specs.declared.answers.Value.TheVariants.{Is, Wrong}
 -- what f makes of the number that digits are; x where they are none
 abbrev pub if_digits : {X : Type 0} → Wide → (ℕ → X) → X → X
 if_digits (Are n) f x = f n
-if_digits None f x = x
+if_digits NoWide f x = x
 
 -- the number x, where t holds and it is at most `most`
 abbrev pub at_most : ℕ → Bool → ℕ → Wide
-at_most most t x = cond (t && nat_le x most) (Are x) None
+at_most most t x = cond (t && nat_le x most) (Are x) NoWide
 
 -- v with the digit b behind it
 abbrev pub step : ℕ → ℕ → ℕ → ℕ → Wide
@@ -25,7 +25,7 @@ step base most v b = at_most most (nat_lt (digit_of b) base) (v * base + digit_o
 -- v with the digits w behind it, one after the other
 unfoldable pub read_on : ℕ → ℕ → ℕ → List ℕ → Wide
 read_on base most v [] = Are v
-read_on base most v (b ∷ w) = if_digits (step base most v b) (λ n. read_on base most n w) None
+read_on base most v (b ∷ w) = if_digits (step base most v b) (λ n. read_on base most n w) NoWide
 
 -- the float nearest to the number that digits are, divided by 10 to the power k
 abbrev pub quotient_of : Wide → ℕ → Value
