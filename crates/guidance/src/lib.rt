@@ -16,6 +16,7 @@ pub struct Picked {
 }
 
 // The laws to fly on a side of a bench.
+#[tactic(auto, unfolding(crate::specs::Picker::picked_of))]
 pub fn pick(b: Bench, side: u32) -> Picked
     ensures { result ≡ picked_of b side }
 {

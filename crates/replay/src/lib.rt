@@ -32,6 +32,7 @@ pub struct Ran {
     pub served: Served,
 }
 
+#[tactic(auto, unfolding(crate::specs::Coded::served_by, calls::specs::Calls::event_answer))]
 fn serve_event(b: Bench, word: u32) -> Served
     ensures { result ≡ served_by b (event word) }
 {
@@ -43,6 +44,7 @@ fn serve_event(b: Bench, word: u32) -> Served
     }
 }
 
+#[tactic(auto, unfolding(crate::specs::Coded::served_by, calls::specs::Calls::answer))]
 fn serve_turn(b: Bench, knob: u32, new: u8) -> Served
     ensures { result ≡ served_by b (turn knob new) }
 {
@@ -54,6 +56,7 @@ fn serve_turn(b: Bench, knob: u32, new: u8) -> Served
     }
 }
 
+#[tactic(auto, unfolding(crate::specs::Coded::served_by, calls::specs::Calls::answer))]
 fn serve_reading(b: Bench, r: Reading) -> Served
     ensures { result ≡ served_by b (reading r) }
 {
@@ -65,6 +68,7 @@ fn serve_reading(b: Bench, r: Reading) -> Served
     }
 }
 
+#[tactic(auto, unfolding(crate::specs::Coded::served_by, calls::specs::Calls::answer))]
 fn serve_send(b: Bench, side: u32) -> Served
     ensures { result ≡ served_by b (send side) }
 {
@@ -76,6 +80,7 @@ fn serve_send(b: Bench, side: u32) -> Served
     }
 }
 
+#[tactic(auto, unfolding(crate::specs::Coded::served_by, calls::specs::Calls::answer))]
 fn serve_refresh(b: Bench, side: u32) -> Served
     ensures { result ≡ served_by b (refresh side) }
 {
@@ -87,6 +92,7 @@ fn serve_refresh(b: Bench, side: u32) -> Served
     }
 }
 
+#[tactic(auto, unfolding(crate::specs::Coded::served_by, calls::specs::Calls::display_answer))]
 fn serve_display(b: Bench, side: u32) -> Served
     ensures { result ≡ served_by b (display side) }
 {

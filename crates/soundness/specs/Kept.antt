@@ -1,5 +1,5 @@
 -- What the theorems on sound benches say. Document 01, 'Who can be turned away' and 'Display'.
-use Rattle.std.specs.Prelude.{◌≡◌, ◌↔◌, true, ℕ, ◌≤◌, ℤ}
+use Rattle.std.specs.Prelude.{◌≡◌, ◌↔◌, true, ◌≤◌, ℤ}
 use Rattle.modes.specs.declared.ModeSet.{ModeSet}
 use Rattle.modes.specs.Numbers.{lateral_law, vertical_law}
 use Rattle.bench.specs.declared.Bench.{Bench}
