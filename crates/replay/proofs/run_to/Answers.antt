@@ -18,10 +18,11 @@ serve_at-s-requires c = c.shortest-in_all.ensures.goes_on c.loop-i.i (omega arit
 pub loop-i-preserved : goal.loop-i-preserved
 loop-i-preserved c =
     let l = c.loop-i in
-    let more = c.shortest-in_all.ensures.goes_on l.i (omega arith) in
-    (omega arith,
-    served_bench _ _ _ _ _ _ l.s.bench c.serve_at-s.result more l.invariant.1 c.serve_at-s.ensures,
-    served_reply _ _ _ _ _ _ l.s.bench c.serve_at-s.result more l.invariant.1 c.serve_at-s.ensures)
+    let more = c.shortest-in_all.ensures.goes_on l.i (omega arith) in (
+      omega arith,
+      served_bench _ _ _ _ _ _ l.s.bench c.serve_at-s.result more l.invariant.1 c.serve_at-s.ensures,
+      served_reply _ _ _ _ _ _ l.s.bench c.serve_at-s.result more l.invariant.1 c.serve_at-s.ensures,
+    )
 
 pub returns : goal.returns
 returns c =
