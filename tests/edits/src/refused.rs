@@ -476,10 +476,6 @@ mod tests {
         for number in [0, 1, 14] {
             assert_eq!(of(TEXTS[number]), Some(Unfit));
         }
-        // it only follows from another
-        let follows = "`g_is`: `close` was not admitted (it has holes)";
-        assert_eq!(of(follows), Some(Unknown));
-        assert_eq!(why(&at("proofs/f/Answers.antt:6:26", follows)), Unknown);
         let limit = format!("{REFUSED}{LIMIT}, which gave no verdict, so this says less of the contract: choose a change that it refuses sooner): ");
         assert_eq!(
             of_line(&format!(
@@ -494,6 +490,25 @@ mod tests {
                 at("proofs/f/Answers.antt:6:26", TEXTS[14])
             )),
             None
+        );
+    }
+
+    /// `rt` shows one message of a check; an error that only follows from another is no reason.
+    #[test]
+    fn what_follows_from_another_error_is_passed_over() {
+        let follows = at(
+            "proofs/f/Answers.antt:6:26",
+            "`g_is`: `close` was not admitted (it has holes)",
+        );
+        let gone = format!("{REFUSED}{GONE}, so this says little of the contract: change a value and keep the names): ");
+        assert_eq!(why(&follows), Unknown);
+        assert_eq!(of_line(&format!("{gone}{follows}")), Some(Unknown));
+        assert_eq!(
+            of_line(&format!(
+                "{gone}{}",
+                at("proofs/f/Answers.antt:6:26", TEXTS[0])
+            )),
+            Some(Unfit)
         );
     }
 
