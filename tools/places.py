@@ -111,24 +111,27 @@ def point3():
 
 
 def point4():
-    derived = {}
     for path, number, code in lines():
-        m = re.search(r'#\[derive\((.*)\)\]', code)
-        if m:
-            derived[path, number] = m.group(1)
-    for kind in ('struct', 'enum'):
-        for path, number, name, text in items(kind):
-            above = [derived.get((path, number - k)) for k in (1, 2)]
-            if not any(d and 'PartialEq' in d for d in above):
-                show(4, 'derive', path, number, f'{kind} {name} derives no PartialEq')
+        # a field bound by hand in front of its one use, as a language without moves out of places needed it
+        if re.match(r'\s*let [a-z_]+ = [a-z_]+\.[a-z_]+;$', code):
+            show(4, 'binding', path, number, code)
     for path, number, name, text in items('fn'):
-        head = text.split('ensures')[0].split('\n{')[0]
-        if re.search(r'\((\w+): \w+\) -> \w+\s*$', ' '.join(head.split())) and 'match' in text:
-            show(4, 'conversion', path, number, f'fn {name}')
+        head = ' '.join(text.split('ensures')[0].split('\n{')[0].split())
+        body = text[len(head):]
+        arms = re.findall(r'=> ([^,{]+),', body)
+        if 'match' in body and arms and '=> {' not in body:
+            if all(a in ('true', 'false') for a in arms):
+                show(4, 'test', path, number, f'fn {name} tells a case by true and false')
+            elif all(re.fullmatch(r'-?[0-9]+|[A-Za-z_]+(::[A-Za-z_]+)+', a) for a in arms):
+                show(4, 'table', path, number, f'fn {name} gives each case a number or a case')
         if re.search(r'as (u64|i64|u32|usize|i32)\s*\n?}', text) and len(text.split('\n')) < 8:
             show(4, 'conversion', path, number, f'fn {name} widens')
-        if re.match(r'(put_|print_)', name) and re.search(r'number|signed|flag|float|pair|whole', name):
+        if re.match(r'(put_|print_)', name) and re.search(r'number|signed|flag|float|pair|next|nth|right|three', name):
             show(4, 'printing', path, number, f'fn {name}')
+        if re.search(r'let mut next = \w+;', text) and text.rstrip().endswith('next\n}'):
+            show(4, 'copy', path, number, f'fn {name} copies and sets a field')
+        if re.search(r'(\w+): (\w)\.\1,\n\s*\}', text):
+            show(4, 'copy', path, number, f'fn {name} spells a struct out')
 
 
 def point5():
