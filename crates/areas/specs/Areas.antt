@@ -1,14 +1,14 @@
 -- What a line does to the bus area, which is the list of its bytes. The console's page, 'the bus area'. The bench stays as it is: frames are read and written, and no call is made.
-use Rattle.std.specs.Prelude.{Bool, cond, List, ℕ, ◌+◌, leb, length, replicate}
+use Rattle.std.specs.Prelude.{Bool, cond, List, ℕ, ◌+◌, leb, length, replicate, Option, Some, None, Err}
 use Rattle.numerals.specs.Pairs.{pair_bytes}
-use Rattle.scripts.specs.Commands.{pairs_of}
-use Rattle.scripts.specs.declared.Command.{Command}
-use Rattle.scripts.specs.declared.Command.TheVariants.{Wrong}
+use Rattle.scripts.specs.Commands.{Asked, pairs_of}
+use Rattle.scripts.specs.declared.Mistake.{Mistake}
 use Rattle.bench.specs.declared.Bench.{Bench}
+use Rattle.bench.specs.Answers.{refusal_number}
 use Rattle.frames.specs.Frames.{laid, write_refusal, area_written}
 use Rattle.areas.specs.declared.AreaAct.{AreaAct}
-use Rattle.areas.specs.declared.AreaAct.TheVariants.{Leaves, Clears, Pokes, Writes}
-use Rattle.areas.specs.declared.AreaAnswer.{AreaAnswer}
+use Rattle.areas.specs.declared.AreaAct.TheVariants.{Clears, Pokes, Writes}
+use Rattle.areas.specs.declared.AreaAnswer.{AreaAnswer as CodeAnswer}
 
 -- ---- the area afterwards
 
@@ -24,35 +24,38 @@ inside start bytes area = leb (start + length bytes) (length area)
 unfoldable pub poked : ℕ → List ℕ → List ℕ → List ℕ
 poked start bytes area = cond (inside start bytes area) (laid start bytes area) area
 
-abbrev pub area_by : AreaAct → List ℕ → Bench → List ℕ → List ℕ
-area_by Leaves line b area = area
-area_by (Clears n) line b area = replicate n 0
-area_by (Pokes start) line b area = poked start (poked_bytes line) area
-area_by (Writes side start) line b area = area_written b side start area
+-- what a line has no act on stays as it is
+abbrev pub area_by : Option AreaAct → List ℕ → Bench → List ℕ → List ℕ
+area_by None line b area = area
+area_by (Some (Clears n)) line b area = replicate n 0
+area_by (Some (Pokes start)) line b area = poked start (poked_bytes line) area
+area_by (Some (Writes side start)) line b area = area_written b side start area
 
 -- ---- the answer
 
--- a poke whose bytes do not lie inside the area is wrong, by number 23 of what can be wrong
-abbrev pub heard_by : AreaAct → Command → List ℕ → List ℕ → Command
-heard_by Leaves c line area = c
-heard_by (Clears n) c line area = c
-heard_by (Pokes start) c line area = cond (inside start (poked_bytes line) area) c (Wrong 23)
-heard_by (Writes side start) c line area = c
+-- a poke whose bytes do not lie inside the area is wrong
+abbrev pub heard_by : Option AreaAct → Asked → List ℕ → List ℕ → Asked
+heard_by None asked line area = asked
+heard_by (Some (Clears n)) asked line area = asked
+heard_by (Some (Pokes start)) asked line area = cond (inside start (poked_bytes line) area) asked (Err Mistake.NoRoom)
+heard_by (Some (Writes side start)) asked line area = asked
 
--- the refusal is that of the frame where one is written, else the call's
-abbrev pub refusal_by : AreaAct → ℕ → Bench → List ℕ → ℕ
-refusal_by Leaves refusal b area = refusal
-refusal_by (Clears n) refusal b area = refusal
-refusal_by (Pokes start) refusal b area = refusal
-refusal_by (Writes side start) refusal b area = write_refusal b side start area
+-- the refusal of the frame where one is written, else 0
+abbrev pub refusal_by : Option AreaAct → Bench → List ℕ → ℕ
+refusal_by None b area = 0
+refusal_by (Some (Clears n)) b area = 0
+refusal_by (Some (Pokes start)) b area = 0
+refusal_by (Some (Writes side start)) b area = write_refusal b side start area
 
--- what was asked, the refusal, and how long the area is then
-abbrev pub answer_of : Command → ℕ → ℕ → AreaAnswer
-answer_of heard refusal n = record { command = heard; refusal = refusal; length = n }
+-- what was asked, and the refusal
+pub record AreaAnswer : Type 0 where
+  pub asked : Asked
+  pub refusal : ℕ
 
-abbrev pub answer_by : AreaAct → Command → ℕ → List ℕ → Bench → List ℕ → AreaAnswer
-answer_by act heard refusal line b area = answer_of heard (refusal_by act refusal b area) (length (area_by act line b area))
+-- what the code answers, as this
+abbrev pub as_area_answer : CodeAnswer → AreaAnswer
+as_area_answer a = record { asked = a.asked; refusal = refusal_number a.written }
 
--- a line that asks for c, whose act this is, where the bench has answered with a refusal or 0
-unfoldable pub area_answer : AreaAct → Command → ℕ → List ℕ → Bench → List ℕ → AreaAnswer
-area_answer act c refusal line b area = answer_by act (heard_by act c line area) refusal line b area
+-- a line that asks for this, with this act
+unfoldable pub area_answer : Option AreaAct → Asked → List ℕ → Bench → List ℕ → AreaAnswer
+area_answer act asked line b area = record { asked = heard_by act asked line area; refusal = refusal_by act b area }

@@ -1,18 +1,18 @@
-// What a line of a script does to the bus area, which is the first bytes of its store.
+// What a line of a script does to the bus area, which has room for 2,048 bytes.
 #![tactic(auto)]
 
-ghost use Rattle.std.specs.Prelude.{◌≡◌, ◌≤◌, min, length, take, replicate};
-ghost use Rattle.numerals.specs.Pairs.{laid_over};
-ghost use Rattle.frames.specs.Frames.{write_refusal, area_written};
-ghost use Rattle.areas.specs.Areas.{poked_bytes, inside, poked, area_by, heard_by, answer_of, answer_by, area_answer};
+ghost use Rattle.std.specs.Prelude.{◌≡◌, cond, take, replicate, Ok, Err};
+ghost use Rattle.scripts.specs.declared.Mistake.{Mistake};
+ghost use Rattle.areas.specs.Areas.{poked_bytes, inside, poked, area_by, as_area_answer, area_answer};
 
+use arrayvec::ArrayVec;
 use bench::Bench;
-use scripts::Command;
+use bench::answers::Refusal;
+use scripts::{Command, Mistake};
 
 // What is done to the area.
 #[derive(Clone, Copy)]
 pub enum AreaAct {
-    Leaves,
     Clears(u32),
     Pokes(u64),
     Writes(u32, u64),
@@ -22,149 +22,62 @@ pub enum AreaAct {
 fn lie_inside(start: u64, line: &[u8], area: &[u8]) -> bool
     ensures { result ≡ inside start (poked_bytes line.now) area.now }
 {
-    let pairs = scripts::pairs_of(line);
-    let count = pairs.len() / 2;
-    if area.len() < count {
-        return false;
-    }
-    let last = area.len() - count;
-    start as usize <= last
+    let count = scripts::pairs_of(line).len() / 2;
+    count <= area.len() && start as usize <= area.len() - count
 }
 
-// What was asked by a poke.
-fn poke_heard(start: u64, c: Command, line: &[u8], area: &[u8]) -> Command
-    ensures { result ≡ heard_by (AreaAct.Pokes start) c line.now area.now }
+// So many zeros, as many as an area has room for.
+fn zeros(n: usize) -> ArrayVec<u8, 2048>
+    ensures { result.items ≡ take 2048 (replicate n 0) }
 {
-    if lie_inside(start, line, area) {
-        return c;
-    }
-    Command::Wrong(scripts::NO_ROOM)
-}
-
-// What was asked, with the area as it was.
-fn heard(act: AreaAct, c: Command, line: &[u8], area: &[u8]) -> Command
-    ensures { result ≡ heard_by act c line.now area.now }
-{
-    match act {
-        AreaAct::Leaves => c,
-        AreaAct::Clears(_) => c,
-        AreaAct::Pokes(start) => poke_heard(start, c, line, area),
-        AreaAct::Writes(_, _) => c,
-    }
-}
-
-// Zeros over the first n bytes of a store, as many as it has.
-fn clear(store: &mut [u8], n: usize)
-    ensures { store.new ≡ laid_over (replicate n 0) store.old }
-{
-    let mut i = 0;
-    while i < store.len() {
-        if n <= i {
-            return;
-        }
-        store[i] = 0;
-        i += 1;
-    }
+    let mut area = ArrayVec::from([0; 2048]);
+    area.truncate(n);
+    area
 }
 
 // Puts the bytes that a poke line holds into the area, if they lie inside.
-fn poke(start: u64, line: &[u8], area: &mut [u8])
-    ensures { area.new ≡ poked start (poked_bytes line.now) area.old }
+fn poke(start: u64, line: &[u8], area: &mut [u8]) -> Result<(), Mistake>
+    ensures answer { result ≡ cond (inside start (poked_bytes line.now) area.old) (Ok tt) (Err Mistake.NoRoom) }
+    ensures new_area { area.new ≡ poked start (poked_bytes line.now) area.old }
 {
     if !lie_inside(start, line, area) {
-        return;
+        return Err(Mistake::NoRoom);
     }
-    let from = start as usize;
-    numerals::put_pairs(scripts::pairs_of(line), &mut area[from..]);
+    numerals::put_pairs(scripts::pairs_of(line), &mut area[start as usize..]);
+    Ok(())
 }
 
-// The same to an area that is the first n bytes of its store.
-fn poke_store(start: u64, line: &[u8], store: &mut [u8], n: usize)
-    requires { n ≤ length store.old }
-    ensures { store.new ≡ laid_over (poked start (poked_bytes line.now) (take n store.old)) store.old }
-{
-    poke(start, line, &mut store[..n]);
-}
-
-// Writes a frame into such an area, and answers its refusal or 0.
-fn write_store(b: Bench, side: u32, start: u64, store: &mut [u8], n: usize) -> u32
-    requires { n ≤ length store.old }
-    ensures answer { result ≡ write_refusal b side start (take n store.old) }
-    ensures new_store { store.new ≡ laid_over (area_written b side start (take n store.old)) store.old }
-{
-    frames::write(b, side, &mut store[..n], start as usize)
-}
-
-// What was asked, the refusal, and the length of the area then.
+// What was asked, and whether a frame that it writes is refused.
 #[derive(Clone, Copy)]
 pub struct AreaAnswer {
-    pub command: Command,
-    pub refusal: u32,
-    pub length: usize,
+    pub asked: Result<Command, Mistake>,
+    pub written: Result<(), Refusal>,
 }
 
-fn answer(command: Command, refusal: u32, length: usize) -> AreaAnswer
-    ensures { result ≡ answer_of command refusal length }
-{
-    AreaAnswer {
-        command,
-        refusal,
-        length,
-    }
-}
-
-// Does an act to such an area. Where no frame is written the refusal is the one that is given.
-fn act_on(
-    act: AreaAct,
-    command: Command,
-    refusal: u32,
-    line: &[u8],
-    b: Bench,
-    store: &mut [u8],
-    n: usize,
-) -> AreaAnswer
-    requires { n ≤ length store.old }
-    ensures answer { result ≡ answer_by act command refusal line.now b (take n store.old) }
-    ensures new_store { store.new ≡ laid_over (area_by act line.now b (take n store.old)) store.old }
-{
-    match act {
-        AreaAct::Leaves => answer(command, refusal, n),
-        AreaAct::Clears(m) => {
-            let length = m as usize;
-            clear(store, length);
-            answer(command, refusal, length)
-        }
-        AreaAct::Pokes(start) => {
-            poke_store(start, line, store, n);
-            answer(command, refusal, n)
-        }
-        AreaAct::Writes(side, start) => {
-            let written = write_store(b, side, start, store, n);
-            answer(command, written, n)
-        }
-    }
-}
-
-fn least(a: usize, b: usize) -> usize
-    ensures { result ≡ min a b }
-{
-    if a < b { a } else { b }
-}
-
-// Carries out a line's act on the area, after the bench has answered with a refusal or 0.
+// Carries out a line's act on the area, if it has one.
+#[tactic(auto, unfolding(crate::specs::Areas::area_answer))]
 pub fn answer_in(
-    act: AreaAct,
-    c: Command,
-    refusal: u32,
+    act: Option<AreaAct>,
+    asked: Result<Command, Mistake>,
     line: &[u8],
     b: Bench,
-    store: &mut [u8],
-    length: usize,
+    area: &mut ArrayVec<u8, 2048>,
 ) -> AreaAnswer
-    ensures answer { result ≡ area_answer act c refusal line.now b (take length store.old) }
-    ensures new_store { store.new ≡ laid_over (area_by act line.now b (take length store.old)) store.old }
+    ensures answer { as_area_answer result ≡ area_answer act asked line.now b area.old.items }
+    ensures new_area { area.new.items ≡ take 2048 (area_by act line.now b area.old.items) }
 {
-    let n = least(length, store.len());
-    let command = heard(act, c, line, &store[..n]);
-    act_on(act, command, refusal, line, b, store, n)
+    let bytes = area.as_mut_slice();
+    let mut answer = AreaAnswer {
+        asked,
+        written: Ok(()),
+    };
+    match act {
+        None => {}
+        Some(AreaAct::Clears(n)) => *area = zeros(n as usize),
+        Some(AreaAct::Pokes(start)) => answer.asked = poke(start, line, bytes).and(asked),
+        Some(AreaAct::Writes(side, start)) => {
+            answer.written = frames::write(b, side, bytes, start as usize);
+        }
+    }
+    answer
 }

@@ -11,18 +11,18 @@ use lib.IntN.{ℤ, pos, negsuc}
 use lib.Ieee.{Float, nan, inf, fin, binary64, up, of_bits, of_int}
 use lib.Ieee.Exact.{HasValue}
 use lib.Ieee.Back.{round_whole}
-use Rattle.rounding.specs.declared.Whole.{Whole}
+use Rattle.std.specs.Prelude.{Ok, Err}
+use Rattle.rounding.specs.declared.NoWhole.{NoWhole}
 use Rattle.rounding.specs.Whole.{in_answer, whole_of}
 use Rattle.rounding.proofs.Laws.{whole_exact}
 use Rattle.bench.specs.declared.Reading.{Reading}
 use Rattle.bench.specs.declared.Bench.{Bench}
-use Rattle.bench.specs.declared.Started.{Started}
 use Rattle.bench.specs.Parts.{with_reference}
 use Rattle.bench.specs.Ranges.{within, reference_range}
 use Rattle.bench.specs.Readings.{of_kind, whole_reading, refusal_of, whole_number}
 use Rattle.bench.specs.Independent.{independent_sound}
 use Rattle.bench.specs.Sound.{kept, references_sound, channel_sound, readings_sound, sound}
-use Rattle.bench.specs.Holds.{start_channel, start_readings, start_wholes, bench_at, power_on, start_speeds, started}
+use Rattle.bench.specs.Holds.{start_channel, start_readings, start_wholes, bench_at, power_on, start_speeds, Started, started}
 use Rattle.bench.specs.Starts.{Accepted, StartLaws}
 use Rattle.bench.proofs.SoundParts.{and_left, and_right, and_both, by_cond}
 use Rattle.bench.proofs.WholeLaws.{may_keep}
@@ -46,7 +46,7 @@ airspeed_kept n h =
     let in-answer : leb n 2147483647 ≡ true = le-leb n 2147483647 (omega arith) in
     let in_range = and_both (leb 0 n) (leb n 600) (le-leb 0 n (omega arith)) (le-leb n 600 (omega arith)) in
     may_keep r (pos n)
-    (ap (of_kind r) (whole_of_lem (of_int binary64 (pos n)) n (exact n h) ∙ ap (λ (t : Bool). cond t (Whole.Value (pos n)) Whole.Beyond) in-answer), in_range)
+    (ap (of_kind r) (whole_of_lem (of_int binary64 (pos n)) n (exact n h) ∙ ap (λ (t : Bool). cond t (Ok (pos n)) (Err NoWhole.Beyond)) in-answer), in_range)
 
 -- ---- the bench at an accepted speed
 

@@ -6,7 +6,8 @@ use native.Mathlib.Omega.{arith}
 use borrow.Author.Tests.{ne_eqb, eqb-true, eq-eqb}
 use lib.IntN.{ℤ, pos, negsuc}
 use lib.Ieee.{Float, of_bits}
-use Rattle.rounding.specs.declared.Whole.{Whole}
+use Rattle.std.specs.Prelude.{Result, Ok, Err}
+use Rattle.rounding.specs.declared.NoWhole.{NoWhole}
 use Rattle.rounding.specs.Whole.{magnitude_of, signed_of, is_i32, in_answer, whole_of}
 use Rattle.rounding.proofs.Laws.{magnitude_nearest, magnitude_only}
 use Rattle.bench.specs.declared.Reading.{Reading}
@@ -39,15 +40,15 @@ of_nearest r z n = ap (of_kind r) (nearest_whole (float_of r) z n)
 stands : (r : Reading) (z : ℤ) → Nearest (float_of r) z → wrapped r z ≡ z → whole_reading r ≡ in_answer z
 stands r z n e = of_nearest r z n ∙ go (is_i32 z)
   where
-    go : (t : Bool) → of_kind r (cond t (Whole.Value z) Whole.Beyond) ≡ cond t (Whole.Value z) Whole.Beyond
-    go true = ap Whole.Value e
+    go : (t : Bool) → of_kind r (cond t (Ok z) (Err NoWhole.Beyond)) ≡ cond t (Ok z) (Err NoWhole.Beyond)
+    go true = ap Ok e
     go false = refl
 
 -- no refusal is a whole value within the range
-judged_in : (r : Reading) (w : Whole) → whole_reading r ≡ w → judged (reading_range r) w ≡ 0 → WholeInRange r
-judged_in r Whole.NotFinite e h = absurd (omega arith)
-judged_in r Whole.Beyond e h = absurd (omega arith)
-judged_in r (Whole.Value z) e h = record { value = z; whole = e; inside = inside (within (reading_range r) z) h }
+judged_in : (r : Reading) (w : Result ℤ NoWhole) → whole_reading r ≡ w → judged (reading_range r) w ≡ 0 → WholeInRange r
+judged_in r (Err NoWhole.NotFinite) e h = absurd (omega arith)
+judged_in r (Err NoWhole.Beyond) e h = absurd (omega arith)
+judged_in r (Ok z) e h = record { value = z; whole = e; inside = inside (within (reading_range r) z) h }
   where
     inside : (t : Bool) → ◌≡◌ {A = ℕ} (cond t 0 6) 0 → t ≡ true
     inside true h = refl
@@ -61,14 +62,14 @@ pub kept_number : (r : Reading) (z : ℤ) → kept r z ≡ true → whole_number
 kept_number r z h = same_true (whole_number r) z (and_right (valid r) (same (whole_number r) z) h)
 
 -- that is so just where the reading has that whole value, within its range
-is_kept : (r : Reading) (z : ℤ) → kept r z ≡ true → (whole_reading r ≡ Whole.Value z) × (within (reading_range r) z ≡ true)
+is_kept : (r : Reading) (z : ℤ) → kept r z ≡ true → (whole_reading r ≡ Ok z) × (within (reading_range r) z ≡ true)
 unfolding whole_number refusal_of
 is_kept r z h =
     let i = judged_in r (whole_reading r) refl (eqb-true (refusal_of r) 0 (and_left (valid r) (same (whole_number r) z) h)) in
     let value : i.value ≡ z = sym (ap number_of i.whole) ∙ kept_number r z h in
-    (i.whole ∙ ap Whole.Value value, sym (ap (within (reading_range r)) value) ∙ i.inside)
+    (i.whole ∙ ap Ok value, sym (ap (within (reading_range r)) value) ∙ i.inside)
 
-pub may_keep : (r : Reading) (z : ℤ) → (whole_reading r ≡ Whole.Value z) × (within (reading_range r) z ≡ true) → kept r z ≡ true
+pub may_keep : (r : Reading) (z : ℤ) → (whole_reading r ≡ Ok z) × (within (reading_range r) z ≡ true) → kept r z ≡ true
 unfolding whole_number refusal_of
 may_keep r z (e, h) =
     and_both (valid r) (same (whole_number r) z) (eq-eqb (refusal_of r) 0 (in_judged r (record { value = z; whole = e; inside = h })))

@@ -1,6 +1,6 @@
 -- Readings. Document 01, 'Readings', and the air data feed's refusals 5 and 6; document 02, 2026-01 and 2026-05.
-use Rattle.std.specs.Prelude.{Bool, false, cond, ℕ, eqb, ℤ, pos, negsuc, Float}
-use Rattle.rounding.specs.declared.Whole.{Whole}
+use Rattle.std.specs.Prelude.{Bool, false, cond, ℕ, eqb, ℤ, pos, negsuc, Float, Result, Ok, Err}
+use Rattle.rounding.specs.declared.NoWhole.{NoWhole}
 use Rattle.rounding.specs.Whole.{whole_of}
 use Rattle.bench.specs.declared.Reading.{Reading}
 use Rattle.bench.specs.declared.Readings.{Readings}
@@ -32,29 +32,27 @@ wrapped (Reading.Pitch x) z = z
 wrapped (Reading.Heading x) z = exchanged 360 (pos 0) z
 
 -- the same of what rounding answers, which may be no number
-abbrev pub of_kind : Reading → Whole → Whole
-of_kind r Whole.NotFinite = Whole.NotFinite
-of_kind r Whole.Beyond = Whole.Beyond
-of_kind r (Whole.Value z) = Whole.Value (wrapped r z)
+abbrev pub of_kind : Reading → Result ℤ NoWhole → Result ℤ NoWhole
+of_kind r (Err none) = Err none
+of_kind r (Ok z) = Ok (wrapped r z)
 
 -- the whole value of a reading, which is compared with the range and kept: the integer nearest to its float, as its kind has it
-unfoldable pub whole_reading : Reading → Whole
+unfoldable pub whole_reading : Reading → Result ℤ NoWhole
 whole_reading r = of_kind r (whole_of (float_of r))
 
 -- 5 where the float is not finite, 6 where its whole value lies outside the range, else 0: no refusal
-abbrev pub judged : Range → Whole → ℕ
-judged r Whole.NotFinite = 5
-judged r Whole.Beyond = 6
-judged r (Whole.Value z) = cond (within r z) 0 6
+abbrev pub judged : Range → Result ℤ NoWhole → ℕ
+judged r (Err NoWhole.NotFinite) = 5
+judged r (Err NoWhole.Beyond) = 6
+judged r (Ok z) = cond (within r z) 0 6
 
 unfoldable pub refusal_of : Reading → ℕ
 refusal_of r = judged (reading_range r) (whole_reading r)
 
 -- a whole value as a number, and 0 of a float that has none, which is never accepted
-abbrev pub number_of : Whole → ℤ
-number_of Whole.NotFinite = pos 0
-number_of Whole.Beyond = pos 0
-number_of (Whole.Value z) = z
+abbrev pub number_of : Result ℤ NoWhole → ℤ
+number_of (Err none) = pos 0
+number_of (Ok z) = z
 
 unfoldable pub whole_number : Reading → ℤ
 whole_number r = number_of (whole_reading r)

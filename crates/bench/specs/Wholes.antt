@@ -1,10 +1,10 @@
 -- What holds of a reading's whole value: two numbers are read otherwise than as the nearest integer, and no more; and a sound bench keeps just the whole values of its
 -- floats. Document 01, 'Readings'; document 02, 2026-01 and 2026-05.
 -- Here are the statements; the proofs are in proofs/WholeLaws.antt.
-use Rattle.std.specs.Prelude.{◌≡◌, ◌↔◌, Bool, true, [], ◌∷◌, map, ℕ, ◌*◌, ℤ, pos, negsuc, Float}
+use Rattle.std.specs.Prelude.{◌≡◌, ◌↔◌, Bool, true, [], ◌∷◌, map, ℕ, ◌*◌, ℤ, pos, negsuc, Float, Result, Ok, Err}
 use Rattle.std.specs.Float.{fin, binary64}
 use Rattle.std.specs.Float.Ieee.{up, down, of_bits}
-use Rattle.rounding.specs.declared.Whole.{Whole}
+use Rattle.rounding.specs.declared.NoWhole.{NoWhole}
 use Rattle.rounding.specs.Whole.{signed_of, in_answer, whole_of}
 use Rattle.rounding.specs.Fraction.{IsNearest}
 use Rattle.bench.specs.declared.Reading.{Reading}
@@ -27,16 +27,16 @@ pub record Nearest (x : Float) (z : ℤ) : Type 0 where
 -- the reading has a whole value, and that lies within its kind's range
 pub record WholeInRange (r : Reading) : Type 0 where
   pub value : ℤ
-  pub whole : whole_reading r ≡ Whole.Value value
+  pub whole : whole_reading r ≡ Ok value
   pub inside : within (reading_range r) value ≡ true
 
 -- `in_answer z` is z, or that z has more than 32 bits and so lies outside every range
 pub record ReadingLaws : Type 0 where
   -- a heading of 360 is 0, and any other heading is its nearest integer
-  pub north : (x : Float) → Nearest x (pos 360) → whole_reading (Reading.Heading x) ≡ Whole.Value (pos 0)
+  pub north : (x : Float) → Nearest x (pos 360) → whole_reading (Reading.Heading x) ≡ Ok (pos 0)
   pub heading : (x : Float) (z : ℤ) → Nearest x z → (z ≡ pos 360 → ⊥) → whole_reading (Reading.Heading x) ≡ in_answer z
   -- a roll of 180 is -180, and any other roll is its nearest integer
-  pub inverted : (x : Float) → Nearest x (pos 180) → whole_reading (Reading.Roll x) ≡ Whole.Value (negsuc 179)
+  pub inverted : (x : Float) → Nearest x (pos 180) → whole_reading (Reading.Roll x) ≡ Ok (negsuc 179)
   pub roll : (x : Float) (z : ℤ) → Nearest x z → (z ≡ pos 180 → ⊥) → whole_reading (Reading.Roll x) ≡ in_answer z
   -- the other kinds are their nearest integer
   pub altitude : (x : Float) (z : ℤ) → Nearest x z → whole_reading (Reading.Altitude x) ≡ in_answer z
@@ -45,11 +45,11 @@ pub record ReadingLaws : Type 0 where
   pub pitch : (x : Float) (z : ℤ) → Nearest x z → whole_reading (Reading.Pitch x) ≡ in_answer z
   -- every finite float has a nearest integer, and a float that is not finite no whole value
   pub finite : (s : Bool) (m : ℕ) (e : ℤ) → (z : ℤ) × Nearest (fin s m e) z
-  pub not_finite : (r : Reading) → whole_of (float_of r) ≡ Whole.NotFinite → whole_reading r ≡ Whole.NotFinite
+  pub not_finite : (r : Reading) → whole_of (float_of r) ≡ Err NoWhole.NotFinite → whole_reading r ≡ Err NoWhole.NotFinite
   -- just the readings are accepted whose whole value lies within the range of their kind
   pub accepted : (r : Reading) → (refusal_of r ≡ 0) ↔ WholeInRange r
   -- a number may stand beside a reading on a sound bench just where it is the reading's whole value and lies within the range
-  pub beside : (r : Reading) (z : ℤ) → (kept r z ≡ true) ↔ ((whole_reading r ≡ Whole.Value z) × (within (reading_range r) z ≡ true))
+  pub beside : (r : Reading) (z : ℤ) → (kept r z ≡ true) ↔ ((whole_reading r ≡ Ok z) × (within (reading_range r) z ≡ true))
   -- so the whole values of a sound bench are those that its floats have when rounded afresh
   pub afresh : (b : Bench) → sound b ≡ true → b.wholes ≡ wholes_of b.readings
 
@@ -59,7 +59,7 @@ abbrev pub reading_of : (Float → Reading) → ℕ → Reading
 reading_of kind n = kind (of_bits binary64 n)
 
 -- a reading's whole value and its refusal
-abbrev pub read_as : Reading → Whole × ℕ
+abbrev pub read_as : Reading → Result ℤ NoWhole × ℕ
 read_as r = (whole_reading r, refusal_of r)
 
 -- what a roll reading leaves in the roll reference when ROLL engages
@@ -69,21 +69,21 @@ loaded_roll r = clamped (reference_range at_roll) (whole_number r)
 pub record ReadingExamples : Type 0 where
   -- headings 359.5, 360.0, 360.25 and 360.5: accepted as 0
   pub north : map read_as (map (reading_of Reading.Heading) (0x4076_7800_0000_0000 ∷ 0x4076_8000_0000_0000 ∷ 0x4076_8400_0000_0000 ∷ 0x4076_8800_0000_0000 ∷ []))
-      ≡ (Whole.Value (pos 0), 0) ∷ (Whole.Value (pos 0), 0) ∷ (Whole.Value (pos 0), 0) ∷ (Whole.Value (pos 0), 0) ∷ []
+      ≡ (Ok (pos 0), 0) ∷ (Ok (pos 0), 0) ∷ (Ok (pos 0), 0) ∷ (Ok (pos 0), 0) ∷ []
   -- headings 359.25, 360.75, -0.5 and -0.75: 361 and -1 are refused with 6
   pub headings : map read_as (map (reading_of Reading.Heading) (0x4076_7400_0000_0000 ∷ 0x4076_8c00_0000_0000 ∷ 0xbfe0_0000_0000_0000 ∷ 0xbfe8_0000_0000_0000 ∷ []))
-      ≡ (Whole.Value (pos 359), 0) ∷ (Whole.Value (pos 361), 6) ∷ (Whole.Value (pos 0), 0) ∷ (Whole.Value (negsuc 0), 6) ∷ []
+      ≡ (Ok (pos 359), 0) ∷ (Ok (pos 361), 6) ∷ (Ok (pos 0), 0) ∷ (Ok (negsuc 0), 6) ∷ []
   -- rolls 179.5, 180.0, 180.5 and -180.5: accepted as -180
   pub inverted : map read_as (map (reading_of Reading.Roll) (0x4066_7000_0000_0000 ∷ 0x4066_8000_0000_0000 ∷ 0x4066_9000_0000_0000 ∷ 0xc066_9000_0000_0000 ∷ []))
-      ≡ (Whole.Value (negsuc 179), 0) ∷ (Whole.Value (negsuc 179), 0) ∷ (Whole.Value (negsuc 179), 0) ∷ (Whole.Value (negsuc 179), 0) ∷ []
+      ≡ (Ok (negsuc 179), 0) ∷ (Ok (negsuc 179), 0) ∷ (Ok (negsuc 179), 0) ∷ (Ok (negsuc 179), 0) ∷ []
   -- rolls 179.25, 180.75 and -180.75: 181 and -181 are refused with 6
   pub rolls : map read_as (map (reading_of Reading.Roll) (0x4066_6800_0000_0000 ∷ 0x4066_9800_0000_0000 ∷ 0xc066_9800_0000_0000 ∷ []))
-      ≡ (Whole.Value (pos 179), 0) ∷ (Whole.Value (pos 181), 6) ∷ (Whole.Value (negsuc 180), 6) ∷ []
+      ≡ (Ok (pos 179), 0) ∷ (Ok (pos 181), 6) ∷ (Ok (negsuc 180), 6) ∷ []
   -- rolls 179.25, 179.75 and 180.0 load 27, -27 and -27
   pub loaded : map loaded_roll (map (reading_of Reading.Roll) (0x4066_6800_0000_0000 ∷ 0x4066_7800_0000_0000 ∷ 0x4066_8000_0000_0000 ∷ [])) ≡ pos 27 ∷ negsuc 26 ∷ negsuc 26 ∷ []
   -- 360.0 and 180.0 of other kinds, and of each other's, are themselves: an altitude, an airspeed, a vertical speed, a pitch, a roll and a heading
   pub others : map read_as (reading_of Reading.Altitude 0x4076_8000_0000_0000 ∷ reading_of Reading.Airspeed 0x4076_8000_0000_0000
       ∷ reading_of Reading.VerticalSpeed 0x4066_8000_0000_0000 ∷ reading_of Reading.Pitch 0x4066_8000_0000_0000
       ∷ reading_of Reading.Roll 0x4076_8000_0000_0000 ∷ reading_of Reading.Heading 0x4066_8000_0000_0000 ∷ [])
-      ≡ (Whole.Value (pos 360), 0) ∷ (Whole.Value (pos 360), 0) ∷ (Whole.Value (pos 180), 0) ∷ (Whole.Value (pos 180), 6)
-      ∷ (Whole.Value (pos 360), 6) ∷ (Whole.Value (pos 180), 0) ∷ []
+      ≡ (Ok (pos 360), 0) ∷ (Ok (pos 360), 0) ∷ (Ok (pos 180), 0) ∷ (Ok (pos 180), 6)
+      ∷ (Ok (pos 360), 6) ∷ (Ok (pos 180), 0) ∷ []

@@ -1,10 +1,12 @@
 // Readings of the air data feed: their whole values, and which are refused.
-ghost use Rattle.std.specs.Prelude.{◌≡◌};
+ghost use Rattle.std.specs.Prelude.{◌≡◌, IfOk};
+ghost use Rattle.bench.specs.Answers.{refusal_number};
 ghost use Rattle.bench.specs.Readings.{float_of, wrapped, whole_reading, judged, number_of, kind_of};
 
 use crate::Reading;
+use crate::answers::Refusal;
 use crate::ranges::{Range, is_within};
-use rounding::Whole;
+use rounding::NoWhole;
 
 fn float_of(r: Reading) -> f64
     ensures { result ≡ float_of r }
@@ -41,40 +43,30 @@ fn wrap(r: Reading, v: i32) -> i32
 
 // The whole value of a reading: the one place for it, for judging and for what is kept.
 #[tactic(auto, unfolding(crate::specs::Readings::whole_reading))]
-pub fn whole_reading(r: Reading) -> Whole
+pub fn whole_reading(r: Reading) -> Result<i32, NoWhole>
     ensures { result ≡ whole_reading r }
 {
-    let nearest = rounding::whole_value(float_of(r));
-    match nearest {
-        Whole::NotFinite => Whole::NotFinite,
-        Whole::Beyond => Whole::Beyond,
-        Whole::Value(v) => Whole::Value(wrap(r, v)),
-    }
+    rounding::whole_value(float_of(r)).map(|v| wrap(r, v))
 }
 
-// The refusal of a whole value with a range: 5 where there is none, 6 where it is out of range, else 0.
-pub fn judge(range: Range, whole: Whole) -> u32
-    ensures { result ≡ judged range whole }
+// A whole value if it lies within a range, and else its refusal: 5 where there is none, 6 where it lies outside.
+pub fn judge(range: Range, whole: Result<i32, NoWhole>) -> Result<i32, Refusal>
+    ensures refusal { refusal_number result ≡ judged range whole }
+    ensures value { IfOk result (λ v. whole ≡ Ok v) }
 {
-    match whole {
-        Whole::NotFinite => 5,
-        Whole::Beyond => 6,
-        Whole::Value(v) => {
-            let inside = is_within(range, v);
-            if inside { 0 } else { 6 }
-        }
+    let v = whole?;
+    if is_within(range, v) {
+        Ok(v)
+    } else {
+        Err(Refusal::OutOfRange)
     }
 }
 
 // A whole value as a number, and 0 where there is none: no such reading is accepted.
-pub fn number_of(whole: Whole) -> i32
+pub fn number_of(whole: Result<i32, NoWhole>) -> i32
     ensures { result ≡ number_of whole }
 {
-    match whole {
-        Whole::NotFinite => 0,
-        Whole::Beyond => 0,
-        Whole::Value(v) => v,
-    }
+    whole.unwrap_or(0)
 }
 
 // The number of a reading's kind, by which its whole value is kept.

@@ -1,19 +1,22 @@
 // The bench value: what it holds at a start, which sides act, and when it is sound. `parts` replaces
-// and reads its parts, `ranges` has the ranges of references and readings, `feed` the readings.
+// and reads its parts, `ranges` has the ranges of references and readings, `feed` the readings, and
+// `answers` what is answered.
 #![tactic(auto)]
 
+pub mod answers;
 pub mod feed;
 pub mod parts;
 pub mod ranges;
 
 ghost use Rattle.std.specs.Prelude.{◌≡◌, ◌&&◌, eqb};
 ghost use Rattle.bench.specs.Parts.{box};
-ghost use Rattle.bench.specs.Holds.{start_channel, start_readings, start_wholes, bench_at, power_on, started};
+ghost use Rattle.bench.specs.Holds.{start_channel, start_readings, start_wholes, bench_at, power_on, started, as_started};
 ghost use Rattle.bench.specs.Sides.{acts, other_side};
 ghost use Rattle.bench.specs.Independent.{both_approach, independent_sound};
 ghost use Rattle.bench.specs.Readings.{whole_reading, judged, same, whole_number};
 ghost use Rattle.bench.specs.Sound.{references_sound, channel_sound, readings_sound, sound};
 
+use answers::{Answer, Refusal};
 use modes::ModeSet;
 use modes::sets::engages_approach;
 use parts::{
@@ -75,6 +78,7 @@ pub struct Readings {
 
 // Their whole values, in the same units as the ranges of the readings. The kinds are numbered 0 to 5 in
 // this order.
+// Stays: document 01 has the readings as a struct of six f64 fields, and so this one stands beside it.
 #[derive(Clone, Copy)]
 pub struct Wholes {
     pub altitude: i32,
@@ -109,13 +113,6 @@ pub struct Bench {
     pub right_inbox: Channel,
 }
 
-// What a start answers: its refusal, and the bench to begin with.
-#[derive(Clone, Copy)]
-pub struct Started {
-    pub refusal: u32,
-    pub bench: Bench,
-}
-
 // The starting speed of the default bench, in knots.
 const DEFAULT_SPEED: i32 = 120;
 
@@ -123,11 +120,10 @@ const DEFAULT_SPEED: i32 = 120;
 fn start_channel(speed: i32) -> Channel
     ensures { result ≡ start_channel speed }
 {
-    let references = with_reference(zero_references(), IAS, speed);
     Channel {
         fd: false,
         set: ModeSet::Off,
-        references,
+        references: with_reference(zero_references(), IAS, speed),
     }
 }
 
@@ -164,8 +160,6 @@ fn bench_at(speed: i32) -> Bench
 {
     let side = start_channel(speed);
     let inbox = start_channel(speed);
-    let readings = start_readings(speed);
-    let wholes = start_wholes(speed);
     Bench {
         shared: Shared {
             pf: 0,
@@ -179,8 +173,8 @@ fn bench_at(speed: i32) -> Bench
             speed: 0,
             heading: 0,
         },
-        readings,
-        wholes,
+        readings: start_readings(speed),
+        wholes: start_wholes(speed),
         left: side,
         right: side,
         left_inbox: inbox,
@@ -197,16 +191,21 @@ pub fn power_on() -> Bench
 }
 
 // A start at a speed in knots; one that is refused gives the default bench.
-#[tactic(auto, unfolding(crate::specs::Holds::started, crate::specs::Holds::power_on))]
-pub fn start(speed: i32) -> Started
-    ensures { result ≡ started speed }
+#[tactic(auto, unfolding(crate::specs::Holds::started))]
+pub fn start(speed: i32) -> Answer<()>
+    ensures { as_started result ≡ started speed }
 {
     if ranges::is_within(ranges::STARTING_SPEED, speed) {
-        let bench = bench_at(speed);
-        return Started { refusal: 0, bench };
+        Answer {
+            outcome: Ok(()),
+            bench: bench_at(speed),
+        }
+    } else {
+        Answer {
+            outcome: Err(Refusal::StartingSpeed),
+            bench: bench_at(DEFAULT_SPEED),
+        }
     }
-    let bench = bench_at(DEFAULT_SPEED);
-    Started { refusal: 10, bench }
 }
 
 // The other side of two.
@@ -224,8 +223,7 @@ pub fn other_side(side: u32) -> u32
 pub fn side_acts(b: Bench, side: u32) -> bool
     ensures { result ≡ acts b side }
 {
-    let shared = b.shared;
-    (side == shared.pf) | shared.independent
+    side == b.shared.pf || b.shared.independent
 }
 
 // Whether both sides have LAPPR and VAPPR engaged.
@@ -233,11 +231,7 @@ pub fn side_acts(b: Bench, side: u32) -> bool
 pub fn both_approach(b: Bench) -> bool
     ensures { result ≡ both_approach b }
 {
-    let left = box_of(b, 0);
-    let right = box_of(b, 1);
-    let left_set = left.set;
-    let right_set = right.set;
-    engages_approach(left_set) & engages_approach(right_set)
+    engages_approach(box_of(b, 0).set) && engages_approach(box_of(b, 1).set)
 }
 
 // Whether independent operation is off, or both sides have what it needs.
@@ -245,9 +239,7 @@ pub fn both_approach(b: Bench) -> bool
 fn independent_sound(b: Bench) -> bool
     ensures { result ≡ independent_sound b }
 {
-    let shared = b.shared;
-    let both = both_approach(b);
-    !shared.independent | both
+    !b.shared.independent || both_approach(b)
 }
 
 // Whether each reference is in its range.
@@ -255,14 +247,13 @@ fn independent_sound(b: Bench) -> bool
 pub fn references_sound(r: References) -> bool
     ensures { result ≡ references_sound r }
 {
-    let heading = reference_in_range(r, HEADING);
-    let preselected = reference_in_range(r, PRESELECTED);
-    let held = reference_in_range(r, HELD);
-    let vertical_speed = reference_in_range(r, VERTICAL_SPEED);
-    let ias = reference_in_range(r, IAS);
-    let roll = reference_in_range(r, ROLL);
-    let pitch = reference_in_range(r, PITCH);
-    heading & preselected & held & vertical_speed & ias & roll & pitch
+    reference_in_range(r, HEADING)
+        && reference_in_range(r, PRESELECTED)
+        && reference_in_range(r, HELD)
+        && reference_in_range(r, VERTICAL_SPEED)
+        && reference_in_range(r, IAS)
+        && reference_in_range(r, ROLL)
+        && reference_in_range(r, PITCH)
 }
 
 #[tactic(auto, unfolding(crate::specs::Sound::channel_sound))]
@@ -270,45 +261,32 @@ fn box_sound(b: Bench, number: u32) -> bool
     ensures { result ≡ channel_sound (box number b) }
 {
     let c = box_of(b, number);
-    let set = c.set;
-    let references = c.references;
-    let coherent = modes::sets::set_is_coherent(set);
-    let in_range = references_sound(references);
-    coherent & in_range
+    modes::sets::set_is_coherent(c.set) && references_sound(c.references)
 }
 
-fn is_same(x: i32, y: i32) -> bool
-    ensures { result ≡ same x y }
-{
-    x == y
-}
-
-// Whether a reading would be accepted whose kind has this range, and its whole value is the one kept.
+// Whether a reading, whose kind has this range, would be accepted, and its whole value is this number.
 #[tactic(auto, unfolding(crate::specs::Readings::whole_number))]
-fn is_kept(range: Range, r: Reading, kept: i32) -> bool
-    ensures { result ≡ (eqb (judged range (whole_reading r)) 0 && same (whole_number r) kept) }
+fn is_kept(range: Range, r: Reading, number: i32) -> bool
+    ensures { result ≡ (eqb (judged range (whole_reading r)) 0 && same (whole_number r) number) }
 {
-    let whole = feed::whole_reading(r);
-    let refusal = feed::judge(range, whole);
-    let number = feed::number_of(whole);
-    (refusal == 0) & is_same(number, kept)
+    feed::judge(range, feed::whole_reading(r)) == Ok(number)
 }
 
 #[tactic(auto, unfolding(crate::specs::Sound::readings_sound, crate::specs::Readings::refusal_of))]
 fn readings_sound(w: Readings, k: Wholes) -> bool
     ensures { result ≡ readings_sound w k }
 {
-    let altitude = is_kept(ranges::ALTITUDE, Reading::Altitude(w.altitude), k.altitude);
-    let airspeed = is_kept(ranges::AIRSPEED, Reading::Airspeed(w.airspeed), k.airspeed);
-    let vertical_speed = is_kept(
-        ranges::VERTICAL_SPEED,
-        Reading::VerticalSpeed(w.vertical_speed),
-        k.vertical_speed,
-    );
-    let roll = is_kept(ranges::ROLL, Reading::Roll(w.roll), k.roll);
-    let pitch = is_kept(ranges::PITCH, Reading::Pitch(w.pitch), k.pitch);
-    let heading = is_kept(ranges::HEADING, Reading::Heading(w.heading), k.heading);
-    altitude & airspeed & vertical_speed & roll & pitch & heading
+    // Stays: `&` over the six, since `&&` was tried here and its proof did not close.
+    is_kept(ranges::ALTITUDE, Reading::Altitude(w.altitude), k.altitude)
+        & is_kept(ranges::AIRSPEED, Reading::Airspeed(w.airspeed), k.airspeed)
+        & is_kept(
+            ranges::VERTICAL_SPEED,
+            Reading::VerticalSpeed(w.vertical_speed),
+            k.vertical_speed,
+        )
+        & is_kept(ranges::ROLL, Reading::Roll(w.roll), k.roll)
+        & is_kept(ranges::PITCH, Reading::Pitch(w.pitch), k.pitch)
+        & is_kept(ranges::HEADING, Reading::Heading(w.heading), k.heading)
 }
 
 // Whether no condition of refusal 1 holds.
@@ -316,14 +294,11 @@ fn readings_sound(w: Readings, k: Wholes) -> bool
 pub fn is_sound(b: Bench) -> bool
     ensures { result ≡ sound b }
 {
-    let shared = b.shared;
-    let readings = b.readings;
-    let wholes = b.wholes;
-    let left = box_sound(b, 0);
-    let right = box_sound(b, 1);
-    let left_inbox = box_sound(b, 2);
-    let right_inbox = box_sound(b, 3);
-    let feed = readings_sound(readings, wholes);
-    let independent = independent_sound(b);
-    (shared.pf <= 1) & left & right & left_inbox & right_inbox & feed & independent
+    b.shared.pf <= 1
+        && box_sound(b, 0)
+        && box_sound(b, 1)
+        && box_sound(b, 2)
+        && box_sound(b, 3)
+        && readings_sound(b.readings, b.wholes)
+        && independent_sound(b)
 }

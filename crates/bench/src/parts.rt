@@ -1,5 +1,7 @@
 // The parts of a bench: each can be read and replaced, and nothing else spells a bench, a channel or
 // the references out.
+// Stays: a side, box, place, knob or kind is a u32 here, since callers may pass any; each function says
+// what the numbers past the last one give.
 ghost use Rattle.std.specs.Prelude.{◌≡◌};
 ghost use Rattle.bench.specs.Parts.{with_shared, with_counts, with_readings, with_wholes, box, with_box, with_fd, with_set, with_references, with_pf, reference, with_reference, zero_references, count_of, with_count, with_whole};
 ghost use Rattle.bench.specs.Independent.{with_operation};
@@ -27,51 +29,39 @@ pub const PITCH: u32 = 6;
 pub fn with_shared(b: Bench, shared: Shared) -> Bench
     ensures { result ≡ with_shared shared b }
 {
-    let mut next = b;
-    next.shared = shared;
-    next
+    Bench { shared, ..b }
 }
 
 #[tactic(auto, unfolding(crate::specs::Parts::with_counts))]
 pub fn with_counts(b: Bench, counts: Counts) -> Bench
     ensures { result ≡ with_counts counts b }
 {
-    let mut next = b;
-    next.counts = counts;
-    next
+    Bench { counts, ..b }
 }
 
 #[tactic(auto, unfolding(crate::specs::Parts::with_readings))]
 pub fn with_readings(b: Bench, readings: Readings) -> Bench
     ensures { result ≡ with_readings readings b }
 {
-    let mut next = b;
-    next.readings = readings;
-    next
+    Bench { readings, ..b }
 }
 
 #[tactic(auto, unfolding(crate::specs::Parts::with_wholes))]
 pub fn with_wholes(b: Bench, wholes: Wholes) -> Bench
     ensures { result ≡ with_wholes wholes b }
 {
-    let mut next = b;
-    next.wholes = wholes;
-    next
+    Bench { wholes, ..b }
 }
 
 // A box by its number: 0 the left side, 1 the right side, 2 the left inbox, 3 the right inbox.
 pub fn box_of(b: Bench, number: u32) -> Channel
     ensures { result ≡ box number b }
 {
-    let left = b.left;
-    let right = b.right;
-    let left_inbox = b.left_inbox;
-    let right_inbox = b.right_inbox;
     match number {
-        0 => left,
-        1 => right,
-        2 => left_inbox,
-        _ => right_inbox,
+        0 => b.left,
+        1 => b.right,
+        2 => b.left_inbox,
+        _ => b.right_inbox,
     }
 }
 
@@ -80,20 +70,14 @@ pub fn box_of(b: Bench, number: u32) -> Channel
 pub fn with_box(b: Bench, number: u32, c: Channel) -> Bench
     ensures { result ≡ with_box number c b }
 {
+    // Stays: an assignment to one copy. `Bench { left: c, ..b }` and the like in the arms were tried: a list
+    // of events then took 1.04 times the instructions.
     let mut next = b;
     match number {
-        0 => {
-            next.left = c;
-        }
-        1 => {
-            next.right = c;
-        }
-        2 => {
-            next.left_inbox = c;
-        }
-        3 => {
-            next.right_inbox = c;
-        }
+        0 => next.left = c,
+        1 => next.right = c,
+        2 => next.left_inbox = c,
+        3 => next.right_inbox = c,
         _ => {}
     }
     next
@@ -113,38 +97,27 @@ pub fn inbox_of(side: u32) -> u32
 pub fn with_fd(c: Channel, fd: bool) -> Channel
     ensures { result ≡ with_fd fd c }
 {
-    let mut next = c;
-    next.fd = fd;
-    next
+    Channel { fd, ..c }
 }
 
 #[tactic(auto, unfolding(crate::specs::Parts::with_set))]
 pub fn with_set(c: Channel, set: ModeSet) -> Channel
     ensures { result ≡ with_set set c }
 {
-    let references = c.references;
-    Channel {
-        fd: c.fd,
-        set,
-        references,
-    }
+    Channel { set, ..c }
 }
 
 #[tactic(auto, unfolding(crate::specs::Parts::with_references))]
 pub fn with_references(c: Channel, references: References) -> Channel
     ensures { result ≡ with_references references c }
 {
-    let mut next = c;
-    next.references = references;
-    next
+    Channel { references, ..c }
 }
 
 pub fn with_pf(s: Shared, pf: u32) -> Shared
     ensures { result ≡ with_pf pf s }
 {
-    let mut next = s;
-    next.pf = pf;
-    next
+    Shared { pf, ..s }
 }
 
 // The bench with independent operation on or off.
@@ -152,8 +125,10 @@ pub fn with_pf(s: Shared, pf: u32) -> Shared
 pub fn with_operation(b: Bench, on: bool) -> Bench
     ensures { result ≡ with_operation on b }
 {
-    let mut shared = b.shared;
-    shared.independent = on;
+    let shared = Shared {
+        independent: on,
+        ..b.shared
+    };
     with_shared(b, shared)
 }
 
@@ -177,32 +152,22 @@ pub fn reference_at(r: References, place: u32) -> i32
 pub fn with_reference(r: References, place: u32, x: i32) -> References
     ensures { result ≡ with_reference place x r }
 {
-    let mut next = r;
     match place {
-        0 => {
-            next.heading = x;
-        }
-        1 => {
-            next.preselected = x;
-        }
-        2 => {
-            next.held = x;
-        }
-        3 => {
-            next.vertical_speed = x;
-        }
-        4 => {
-            next.ias = x;
-        }
-        5 => {
-            next.roll = x;
-        }
-        6 => {
-            next.pitch = x;
-        }
-        _ => {}
+        0 => References { heading: x, ..r },
+        1 => References {
+            preselected: x,
+            ..r
+        },
+        2 => References { held: x, ..r },
+        3 => References {
+            vertical_speed: x,
+            ..r
+        },
+        4 => References { ias: x, ..r },
+        5 => References { roll: x, ..r },
+        6 => References { pitch: x, ..r },
+        _ => r,
     }
-    next
 }
 
 pub fn zero_references() -> References
@@ -231,27 +196,20 @@ pub fn count_of(c: Counts, knob: u32) -> u8
     }
 }
 
+// The counts with another one for a knob; past knob 3 there is none to replace.
+// Stays: `with_box` is of the same shape, but its struct has other fields, and each field is named in an
+// arm of its own either way.
 #[tactic(auto, unfolding(crate::specs::Parts::with_count))]
 pub fn with_count(c: Counts, knob: u32, n: u8) -> Counts
     ensures { result ≡ with_count knob n c }
 {
-    let mut next = c;
     match knob {
-        0 => {
-            next.wheel = n;
-        }
-        1 => {
-            next.altitude = n;
-        }
-        2 => {
-            next.speed = n;
-        }
-        3 => {
-            next.heading = n;
-        }
-        _ => {}
+        0 => Counts { wheel: n, ..c },
+        1 => Counts { altitude: n, ..c },
+        2 => Counts { speed: n, ..c },
+        3 => Counts { heading: n, ..c },
+        _ => c,
     }
-    next
 }
 
 // The whole values with another number for a kind; past kind 5 there is none to replace.
@@ -259,27 +217,16 @@ pub fn with_count(c: Counts, knob: u32, n: u8) -> Counts
 pub fn with_whole(w: Wholes, kind: u32, x: i32) -> Wholes
     ensures { result ≡ with_whole kind x w }
 {
-    let mut next = w;
     match kind {
-        0 => {
-            next.altitude = x;
-        }
-        1 => {
-            next.airspeed = x;
-        }
-        2 => {
-            next.vertical_speed = x;
-        }
-        3 => {
-            next.roll = x;
-        }
-        4 => {
-            next.pitch = x;
-        }
-        5 => {
-            next.heading = x;
-        }
-        _ => {}
+        0 => Wholes { altitude: x, ..w },
+        1 => Wholes { airspeed: x, ..w },
+        2 => Wholes {
+            vertical_speed: x,
+            ..w
+        },
+        3 => Wholes { roll: x, ..w },
+        4 => Wholes { pitch: x, ..w },
+        5 => Wholes { heading: x, ..w },
+        _ => w,
     }
-    next
 }

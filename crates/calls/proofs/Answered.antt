@@ -1,36 +1,34 @@
--- How every entry answers, by the refusal n that it found: a refused call with n and the bench as it came, an accepted one with 0 and what it does, after which
+-- How every call answers, by its refusal: a refused one with its number and the bench as it came, an accepted one with 0 and what it does, after which
 -- independent operation may be over. Assumes nothing.
-use mathlib.Core.Path.{◌≡◌, sym, ap, ◌∙◌}
-use mathlib.Core.Bool.{cond}
+use mathlib.Core.Path.{◌≡◌, refl}
+use mathlib.Core.Bool.{Bool, true, false, cond}
 use Prim.Native.Nat.{ℕ}
-use borrow.Author.Tests.{ne_eqb}
+use native.Mathlib.Omega.{arith}
 use lib.Dec.{eqb}
 use Rattle.bench.specs.declared.Bench.{Bench}
+use Rattle.bench.specs.declared.answers.Refusal.{Refusal}
+use Rattle.bench.specs.Answers.{number_of_refusal}
 use Rattle.bench.specs.Independent.{ended}
-use Rattle.calls.specs.declared.answers.Answer.{Answer}
-use Rattle.calls.specs.Calls.{Call, refusal, done, next, answer}
-use Rattle.calls.specs.Private.{accepting}
+use Rattle.bench.specs.Sound.{sound}
+use Rattle.bench.proofs.Independent.{sound_stays}
 
-module _ (m n : ℕ) (found : n ≡ m) where
-  pub if_refused : (n ≡ 0 → ⊥) → {A : Type 0} (x y : A) → y ≡ cond (eqb m 0) x y
-  if_refused k x y = rw (← found, ne_eqb n 0 k)
+-- no refusal has the number 0
+pub some_number : (r : Refusal) → eqb (number_of_refusal r) 0 ≡ false
+some_number Refusal.UnsoundBench = refl
+some_number Refusal.UnknownSide = refl
+some_number Refusal.UnknownKnob = refl
+some_number Refusal.UnknownEvent = refl
+some_number Refusal.NotFinite = refl
+some_number Refusal.OutOfRange = refl
+some_number Refusal.NoRoom = refl
+some_number Refusal.NoFrame = refl
+some_number Refusal.FieldOutOfRange = refl
+some_number Refusal.StartingSpeed = refl
 
-  pub if_accepted_lem : n ≡ 0 → {A : Type 0} (x y : A) → x ≡ cond (eqb m 0) x y
-  if_accepted_lem e x y = rw (← found, e)
-
-module _ (b : Bench) (c : Call) (n : ℕ) (found : n ≡ refusal b c) where
-  pub next_refused : (n ≡ 0 → ⊥) → b ≡ next b c
-  unfolding next
-  next_refused k = if_refused (refusal b c) n found k (ended (done c b)) b
-
-  pub next_accepted : n ≡ 0 → {x : Bench} → x ≡ ended (done c b) → x ≡ next b c
-  unfolding next
-  next_accepted e d = d ∙ if_accepted_lem (refusal b c) n found e (ended (done c b)) b
-
-  pub answer_refused : (n ≡ 0 → ⊥) → record { refusal = n; bench = b } ≡ answer b c
-  unfolding answer
-  answer_refused k = λ i. record { refusal = found i; bench = next_refused k i }
-
-  pub answer_accepted : n ≡ 0 → {x : Bench} {r : Answer} → r ≡ accepting x → x ≡ done c b → r ≡ answer b c
-  unfolding answer
-  answer_accepted e a d = a ∙ (λ i. record { refusal = (sym e ∙ found) i; bench = next_accepted e (ap ended d) i })
+-- an accepted call finds a sound bench, in which there is nothing to end
+pub accepted_stays : (b : Bench) (own : ℕ) → cond (sound b) own 1 ≡ 0 → ended b ≡ b
+accepted_stays b own h = go (sound b) refl
+  where
+    go : (t : Bool) → sound b ≡ t → ended b ≡ b
+    go true e = sound_stays b e
+    go false e = absurd (let one : 1 ≡ 0 = rw e at h in omega arith)

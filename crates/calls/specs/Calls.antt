@@ -11,24 +11,11 @@ use Rattle.bench.specs.Independent.{ended}
 use Rattle.bench.specs.Sound.{sound}
 use Rattle.steps.specs.Steps.{acted}
 use Rattle.knobs.specs.Knobs.{turned}
-use Rattle.calls.specs.declared.answers.Answer.{Answer}
-use Rattle.calls.specs.declared.answers.EventAnswer.{EventAnswer}
+use Rattle.calls.specs.declared.call.Call.{Call}
 use Rattle.calls.specs.declared.answers.Display.{Display}
-use Rattle.calls.specs.declared.answers.DisplayAnswer.{DisplayAnswer}
 use Rattle.calls.specs.Sends.{sent, refreshed}
 use Rattle.calls.specs.Displays.{shown, blank}
-
--- a call: which entry is called, and what it is given besides the bench
-pub data Call : Type 0 where
-  -- an event word
-  event : ℕ → Call
-  -- a knob and its new count
-  turn : ℕ → ℕ → Call
-  reading : Reading → Call
-  -- a side
-  send : ℕ → Call
-  refresh : ℕ → Call
-  display : ℕ → Call
+use Rattle.calls.specs.Answers.{Answer, EventAnswer, DisplayAnswer}
 
 -- ---- refusals
 
@@ -46,12 +33,12 @@ word_refusal word = cond (leb 2097152 word) 4 0
 
 -- the refusal, 2 to 6, that a call's own arguments give it, and 0 if none does
 abbrev pub own_refusal : Call → ℕ
-own_refusal (event word) = word_refusal word
-own_refusal (turn knob n) = knob_refusal knob
-own_refusal (reading r) = refusal_of r
-own_refusal (send s) = side_refusal s
-own_refusal (refresh s) = side_refusal s
-own_refusal (display s) = side_refusal s
+own_refusal (Call.Event word) = word_refusal word
+own_refusal (Call.Turn knob n) = knob_refusal knob
+own_refusal (Call.Reading r) = refusal_of r
+own_refusal (Call.Send s) = side_refusal s
+own_refusal (Call.Refresh s) = side_refusal s
+own_refusal (Call.Display s) = side_refusal s
 
 -- 1, of an unsound bench, goes before a call's own refusal
 unfoldable pub refusal : Bench → Call → ℕ
@@ -65,12 +52,12 @@ received r b = with_wholes (stored_whole r b.wholes) (with_readings (stored r b.
 
 -- a word stands for the event of its lowest set bit, and 0 for none; a display changes nothing
 abbrev pub done : Call → Bench → Bench
-done (event word) b = acted (event_at (count_trailing_zeros 32 word)) b
-done (turn knob n) b = turned knob n b
-done (reading r) b = received r b
-done (send s) b = sent s b
-done (refresh s) b = refreshed s b
-done (display s) b = b
+done (Call.Event word) b = acted (event_at (count_trailing_zeros 32 word)) b
+done (Call.Turn knob n) b = turned knob n b
+done (Call.Reading r) b = received r b
+done (Call.Send s) b = sent s b
+done (Call.Refresh s) b = refreshed s b
+done (Call.Display s) b = b
 
 -- ---- what a call answers
 
@@ -88,11 +75,11 @@ answer b c = record { refusal = refusal b c; bench = next b c }
 
 -- an event: the number acted on, or 32
 unfoldable pub event_answer : Bench → ℕ → EventAnswer
-event_answer b word = record { refusal = refusal b (event word); event = if_accepted b (event word) (count_trailing_zeros 32 word) 32; bench = next b (event word) }
+event_answer b word = record { refusal = refusal b (Call.Event word); event = if_accepted b (Call.Event word) (count_trailing_zeros 32 word) 32; bench = next b (Call.Event word) }
 
 -- a display: what the side shows, or all zeros
 unfoldable pub display_answer : Bench → ℕ → DisplayAnswer
-display_answer b s = record { refusal = refusal b (display s); display = if_accepted b (display s) (shown b s) blank; bench = next b (display s) }
+display_answer b s = record { refusal = refusal b (Call.Display s); display = if_accepted b (Call.Display s) (shown b s) blank; bench = next b (Call.Display s) }
 
 -- ---- the same as data
 
@@ -108,9 +95,9 @@ refusal_in (told n e) = n
 refusal_in (shows n d) = n
 
 abbrev pub reply : Bench → Call → Reply
-reply b (event word) = told (event_answer b word).refusal (event_answer b word).event
-reply b (turn knob n) = plain (answer b (turn knob n)).refusal
-reply b (reading r) = plain (answer b (reading r)).refusal
-reply b (send s) = plain (answer b (send s)).refusal
-reply b (refresh s) = plain (answer b (refresh s)).refusal
-reply b (display s) = shows (display_answer b s).refusal (display_answer b s).display
+reply b (Call.Event word) = told (event_answer b word).refusal (event_answer b word).event
+reply b (Call.Turn knob n) = plain (answer b (Call.Turn knob n)).refusal
+reply b (Call.Reading r) = plain (answer b (Call.Reading r)).refusal
+reply b (Call.Send s) = plain (answer b (Call.Send s)).refusal
+reply b (Call.Refresh s) = plain (answer b (Call.Refresh s)).refusal
+reply b (Call.Display s) = shows (display_answer b s).refusal (display_answer b s).display

@@ -1,4 +1,5 @@
 pub mod Sends
 pub mod Displays
+pub mod Answers
 pub mod Calls
 pub mod Private

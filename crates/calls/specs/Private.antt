@@ -6,11 +6,7 @@ use Rattle.bench.specs.declared.Wholes.{Wholes}
 use Rattle.bench.specs.Parts.{with_readings, with_wholes}
 use Rattle.bench.specs.Independent.{ended}
 use Rattle.bench.specs.Sound.{sound}
-use Rattle.calls.specs.declared.answers.Answer.{Answer}
-
--- the answer of an accepted call that leaves b before independent operation is looked at
-abbrev pub accepting : Bench → Answer
-accepting b = record { refusal = 0; bench = ended b }
+use Rattle.calls.specs.Answers.{Answer}
 
 -- the answer to a reading with this refusal of its own, which would leave the readings w and the whole values k
 unfoldable pub received_as : ℕ → Readings → Wholes → Bench → Answer

@@ -1,20 +1,11 @@
-// What the calls answer.
-use bench::{Bench, References};
+// What the calls answer besides the bench, where it is more than that they are accepted or refused.
+ghost use Rattle.std.specs.Prelude.{◌≡◌};
+ghost use Rattle.calls.specs.Displays.{blank};
+ghost use Rattle.calls.specs.Answers.{event_in, display_in};
 
-// The answer of a turn, a reading, a send or a refresh.
-#[derive(Clone, Copy)]
-pub struct Answer {
-    pub refusal: u32,
-    pub bench: Bench,
-}
-
-// The answer of an event: the event acted on, or 32.
-#[derive(Clone, Copy)]
-pub struct EventAnswer {
-    pub refusal: u32,
-    pub event: u32,
-    pub bench: Bench,
-}
+use bench::References;
+use bench::answers::Answer;
+use bench::parts::zero_references;
 
 // What a side shows.
 #[derive(Clone, Copy)]
@@ -27,10 +18,29 @@ pub struct Display {
     pub lamps: u32,
 }
 
-// The answer of a display. The bench is the one that came.
-#[derive(Clone, Copy)]
-pub struct DisplayAnswer {
-    pub refusal: u32,
-    pub display: Display,
-    pub bench: Bench,
+// The event that an answer names: 32 where it is refused, or where no bit was set.
+pub fn event_in(answer: Answer<u32>) -> u32
+    ensures { result ≡ event_in answer.outcome }
+{
+    answer.outcome.unwrap_or(32)
+}
+
+fn blank() -> Display
+    ensures { result ≡ blank }
+{
+    Display {
+        fd: false,
+        lateral: 0,
+        vertical: 0,
+        armed: 0,
+        references: zero_references(),
+        lamps: 0,
+    }
+}
+
+// The display that an answer shows: all zeros where it is refused.
+pub fn display_in(answer: Answer<Display>) -> Display
+    ensures { result ≡ display_in answer.outcome }
+{
+    answer.outcome.unwrap_or(blank())
 }

@@ -4,50 +4,65 @@
 #![tactic(auto)]
 
 pub mod answers;
+pub mod call;
 
-ghost use Rattle.std.specs.Prelude.{◌≡◌, cond};
-ghost use Rattle.bench.specs.Readings.{judged};
-ghost use Rattle.bench.specs.Sides.{inbox_of};
+ghost use Rattle.std.specs.Prelude.{◌≡◌, cond, Ok, Err, IfOk};
+ghost use Rattle.bench.specs.Answers.{refusal_number};
+ghost use Rattle.bench.specs.Readings.{judged, whole_reading, stored_whole};
 ghost use Rattle.bench.specs.Independent.{ended};
 ghost use Rattle.bench.specs.Sound.{sound};
-ghost use Rattle.calls.specs.Displays.{pf_lamp, lamps, shown, blank};
-ghost use Rattle.calls.specs.Calls.{Call, side_refusal, knob_refusal, word_refusal, answer, event_answer, display_answer};
-ghost use Rattle.calls.specs.Private.{accepting, received_as};
+ghost use Rattle.calls.specs.declared.call.Call.{Call};
+ghost use Rattle.calls.specs.Answers.{as_answer, as_event_answer, as_display_answer};
+ghost use Rattle.calls.specs.Displays.{pf_lamp, lamps, shown};
+ghost use Rattle.calls.specs.Calls.{side_refusal, knob_refusal, word_refusal, answer, event_answer, display_answer};
+ghost use Rattle.calls.specs.Private.{received_as};
 ghost use Rattle.calls.specs.Sends.{sent, taken, refreshed};
 
-use answers::{Answer, Display, DisplayAnswer, EventAnswer};
+use answers::Display;
+use bench::answers::{Answer, Refusal};
 use bench::parts::{box_of, inbox_of, with_box};
 use bench::ranges::Range;
-use bench::{Bench, Readings, Wholes, ranges};
-use rounding::Whole;
+use bench::{Bench, Channel, Reading, Readings, ranges};
 
-// The refusal of a call whose own arguments give `own`: 1, of an unsound bench, goes before it.
-fn refusal_of(b: Bench, own: u32) -> u32
-    ensures { result ≡ cond (sound b) own 1 }
+// What a call's own arguments come to, where the bench is sound: refusal 1 goes before their own.
+fn permitted<T: Copy>(b: Bench, own: Result<T, Refusal>) -> Result<T, Refusal>
+    ensures refusal { refusal_number result ≡ cond (sound b) (refusal_number own) 1 }
+    ensures value { IfOk result (λ v. own ≡ Ok v) }
 {
-    let sound = bench::is_sound(b);
-    if sound { own } else { 1 }
-}
-
-fn side_refusal(side: u32) -> u32
-    ensures { result ≡ side_refusal side }
-{
-    if side <= 1 { 0 } else { 2 }
-}
-
-fn knob_refusal(knob: u32) -> u32
-    ensures { result ≡ knob_refusal knob }
-{
-    match knob {
-        0..=3 => 0,
-        _ => 3,
+    if bench::is_sound(b) {
+        own
+    } else {
+        Err(Refusal::UnsoundBench)
     }
 }
 
-fn word_refusal(word: u32) -> u32
-    ensures { result ≡ word_refusal word }
+fn known_side(side: u32) -> Result<(), Refusal>
+    ensures { refusal_number result ≡ side_refusal side }
 {
-    if 2097152 <= word { 4 } else { 0 }
+    if side <= 1 {
+        Ok(())
+    } else {
+        Err(Refusal::UnknownSide)
+    }
+}
+
+fn known_knob(knob: u32) -> Result<(), Refusal>
+    ensures { refusal_number result ≡ knob_refusal knob }
+{
+    match knob {
+        0..=3 => Ok(()),
+        _ => Err(Refusal::UnknownKnob),
+    }
+}
+
+fn known_events(word: u32) -> Result<(), Refusal>
+    ensures { refusal_number result ≡ word_refusal word }
+{
+    if 2097152 <= word {
+        Err(Refusal::UnknownEvent)
+    } else {
+        Ok(())
+    }
 }
 
 // What an accepted call leaves: independent operation is off where a side is without LAPPR or VAPPR
@@ -56,166 +71,160 @@ fn word_refusal(word: u32) -> u32
 fn end_independent(b: Bench) -> Bench
     ensures { result ≡ ended b }
 {
-    let both = bench::both_approach(b);
-    if both {
+    if bench::both_approach(b) {
         b
     } else {
         bench::parts::with_operation(b, false)
     }
 }
 
-// The answer of an accepted call that answers nothing but its bench.
-fn accept(b: Bench) -> Answer
-    ensures { result ≡ accepting b }
+// The answer of a refused call: the bench stays as it came.
+fn refuse<T>(b: Bench, refusal: Refusal) -> Answer<T>
+    ensures outcome { result.outcome ≡ Err refusal }
+    ensures bench { result.bench ≡ b }
 {
-    let bench = end_independent(b);
-    Answer { refusal: 0, bench }
+    Answer {
+        outcome: Err(refusal),
+        bench: b,
+    }
+}
+
+// The answer of an accepted call that answers nothing but its bench.
+fn accept(b: Bench) -> Answer<()>
+    ensures outcome { result.outcome ≡ Ok tt }
+    ensures bench { result.bench ≡ ended b }
+{
+    Answer {
+        outcome: Ok(()),
+        bench: end_independent(b),
+    }
 }
 
 // An event word: its lowest set bit names the event.
-pub fn event(b: Bench, word: u32) -> EventAnswer
-    ensures { result ≡ event_answer b word }
+#[tactic(auto, unfolding(crate::specs::Calls::event_answer, crate::specs::Calls::next, crate::specs::Calls::refusal), using(crate::proofs::Answered::some_number))]
+pub fn event(b: Bench, word: u32) -> Answer<u32>
+    ensures { as_event_answer result ≡ event_answer b word }
 {
-    let refusal = refusal_of(b, word_refusal(word));
-    if refusal != 0 {
-        return EventAnswer {
-            refusal,
-            event: 32,
-            bench: b,
-        };
-    }
-    let number = u32::trailing_zeros(word);
-    let next = steps::act(events::event_at(number), b);
-    let bench = end_independent(next);
-    EventAnswer {
-        refusal: 0,
-        event: number,
-        bench,
+    match permitted(b, known_events(word)) {
+        Ok(()) => {
+            let number = u32::trailing_zeros(word);
+            Answer {
+                outcome: Ok(number),
+                bench: end_independent(steps::act(events::event_at(number), b)),
+            }
+        }
+        Err(refusal) => refuse(b, refusal),
     }
 }
 
 // A knob's new count.
-pub fn turn(b: Bench, knob: u32, new: u8) -> Answer
-    ensures { result ≡ answer b (Call.turn knob new) }
+#[tactic(auto, unfolding(crate::specs::Calls::answer, crate::specs::Calls::next, crate::specs::Calls::refusal), using(crate::proofs::Answered::some_number))]
+pub fn turn(b: Bench, knob: u32, new: u8) -> Answer<()>
+    ensures { as_answer result ≡ answer b (Call.Turn knob new) }
 {
-    let refusal = refusal_of(b, knob_refusal(knob));
-    if refusal != 0 {
-        return Answer { refusal, bench: b };
+    match permitted(b, known_knob(knob)) {
+        Ok(()) => accept(knobs::turn_to(b, knob, new)),
+        Err(refusal) => refuse(b, refusal),
     }
-    accept(knobs::turn_to(b, knob, new))
 }
 
-// The answer to a reading with this range and this whole value, which would leave these readings and these
-// whole values.
-fn receive(b: Bench, range: Range, whole: Whole, readings: Readings, wholes: Wholes) -> Answer
-    ensures { result ≡ received_as (judged range whole) readings wholes b }
+// The answer to a reading whose kind has this range, and which would leave these readings.
+#[tactic(auto, unfolding(crate::specs::Private::received_as), using(crate::proofs::Answered::some_number))]
+fn receive(b: Bench, r: Reading, range: Range, readings: Readings) -> Answer<()>
+    ensures { as_answer result ≡ received_as (judged range (whole_reading r)) readings (stored_whole r b.wholes) b }
 {
-    let refusal = refusal_of(b, bench::feed::judge(range, whole));
-    if refusal != 0 {
-        return Answer { refusal, bench: b };
+    let own = bench::feed::judge(range, bench::feed::whole_reading(r));
+    match permitted(b, own) {
+        Ok(whole) => {
+            let wholes = bench::parts::with_whole(b.wholes, bench::feed::kind_of(r), whole);
+            accept(Bench {
+                readings,
+                wholes,
+                ..b
+            })
+        }
+        Err(refusal) => refuse(b, refusal),
     }
-    let next = bench::parts::with_readings(b, readings);
-    accept(bench::parts::with_wholes(next, wholes))
 }
 
 // A reading of the air data feed. Each kind has its range, its number and its field.
-pub fn reading(b: Bench, r: bench::Reading) -> Answer
-    ensures { result ≡ answer b (Call.reading r) }
+#[tactic(auto, unfolding(crate::specs::Private::received_as, bench::specs::Readings::refusal_of, bench::specs::Readings::stored, crate::specs::Calls::refusal, crate::specs::Calls::received, crate::specs::Calls::next, crate::specs::Calls::answer))]
+pub fn reading(b: Bench, r: Reading) -> Answer<()>
+    ensures { as_answer result ≡ answer b (Call.Reading r) }
 {
-    let whole = bench::feed::whole_reading(r);
-    let number = bench::feed::number_of(whole);
-    let was = b.wholes;
-    let wholes = bench::parts::with_whole(was, bench::feed::kind_of(r), number);
-    let mut next = b.readings;
-    match r {
-        bench::Reading::Altitude(x) => {
-            next.altitude = x;
-            receive(b, ranges::ALTITUDE, whole, next, wholes)
-        }
-        bench::Reading::Airspeed(x) => {
-            next.airspeed = x;
-            receive(b, ranges::AIRSPEED, whole, next, wholes)
-        }
-        bench::Reading::VerticalSpeed(x) => {
-            next.vertical_speed = x;
-            receive(b, ranges::VERTICAL_SPEED, whole, next, wholes)
-        }
-        bench::Reading::Roll(x) => {
-            next.roll = x;
-            receive(b, ranges::ROLL, whole, next, wholes)
-        }
-        bench::Reading::Pitch(x) => {
-            next.pitch = x;
-            receive(b, ranges::PITCH, whole, next, wholes)
-        }
-        bench::Reading::Heading(x) => {
-            next.heading = x;
-            receive(b, ranges::HEADING, whole, next, wholes)
-        }
-    }
+    let last = b.readings;
+    let (range, readings) = match r {
+        Reading::Altitude(altitude) => (ranges::ALTITUDE, Readings { altitude, ..last }),
+        Reading::Airspeed(airspeed) => (ranges::AIRSPEED, Readings { airspeed, ..last }),
+        Reading::VerticalSpeed(vertical_speed) => (
+            ranges::VERTICAL_SPEED,
+            Readings {
+                vertical_speed,
+                ..last
+            },
+        ),
+        Reading::Roll(roll) => (ranges::ROLL, Readings { roll, ..last }),
+        Reading::Pitch(pitch) => (ranges::PITCH, Readings { pitch, ..last }),
+        Reading::Heading(heading) => (ranges::HEADING, Readings { heading, ..last }),
+    };
+    receive(b, r, range, readings)
 }
 
 #[tactic(auto, unfolding(crate::specs::Sends::sent))]
 fn post(b: Bench, side: u32) -> Bench
     ensures { result ≡ sent side b }
 {
-    let c = box_of(b, side);
-    with_box(b, inbox_of(bench::other_side(side)), c)
+    with_box(b, inbox_of(bench::other_side(side)), box_of(b, side))
 }
 
 // What a side holds goes to the other side's inbox.
-pub fn send(b: Bench, side: u32) -> Answer
-    ensures { result ≡ answer b (Call.send side) }
+#[tactic(auto, unfolding(crate::specs::Calls::answer, crate::specs::Calls::next, crate::specs::Calls::refusal), using(crate::proofs::Answered::some_number))]
+pub fn send(b: Bench, side: u32) -> Answer<()>
+    ensures { as_answer result ≡ answer b (Call.Send side) }
 {
-    let refusal = refusal_of(b, side_refusal(side));
-    if refusal != 0 {
-        return Answer { refusal, bench: b };
+    match permitted(b, known_side(side)) {
+        Ok(()) => accept(post(b, side)),
+        Err(refusal) => refuse(b, refusal),
     }
-    accept(post(b, side))
 }
 
 // A side takes over the set and the references of a box; its flight director stays.
-#[tactic(auto, unfolding(crate::specs::Sends::taken))]
+#[tactic(auto, unfolding(crate::specs::Sends::taken, bench::specs::Parts::with_set, bench::specs::Parts::with_references))]
 fn take(b: Bench, side: u32, source: u32) -> Bench
     ensures { result ≡ taken source side b }
 {
-    let c = box_of(b, side);
+    let own = box_of(b, side);
     let given = box_of(b, source);
-    let set = given.set;
-    let references = given.references;
-    let next = bench::parts::with_set(c, set);
-    with_box(b, side, bench::parts::with_references(next, references))
-}
-
-// The box that a passive side takes over at a refresh: what was sent to it last.
-fn refresh_source(side: u32) -> u32
-    ensures { result ≡ inbox_of side }
-{
-    inbox_of(side)
+    with_box(
+        b,
+        side,
+        Channel {
+            fd: own.fd,
+            ..given
+        },
+    )
 }
 
 #[tactic(auto, unfolding(crate::specs::Sends::refreshed))]
 fn renew(b: Bench, side: u32) -> Bench
     ensures { result ≡ refreshed side b }
 {
-    let acts = bench::side_acts(b, side);
-    if acts {
-        let set = steps::second_step(side, b);
-        steps::settle(b, side, set)
+    if bench::side_acts(b, side) {
+        steps::settle(b, side, steps::second_step(side, b))
     } else {
-        take(b, side, refresh_source(side))
+        take(b, side, inbox_of(side))
     }
 }
 
 // A side that does not act takes over what was sent to it last; one that acts applies the On rule.
-pub fn refresh(b: Bench, side: u32) -> Answer
-    ensures { result ≡ answer b (Call.refresh side) }
+#[tactic(auto, unfolding(crate::specs::Calls::answer, crate::specs::Calls::next, crate::specs::Calls::refusal), using(crate::proofs::Answered::some_number))]
+pub fn refresh(b: Bench, side: u32) -> Answer<()>
+    ensures { as_answer result ≡ answer b (Call.Refresh side) }
 {
-    let refusal = refusal_of(b, side_refusal(side));
-    if refusal != 0 {
-        return Answer { refusal, bench: b };
+    match permitted(b, known_side(side)) {
+        Ok(()) => accept(renew(b, side)),
+        Err(refusal) => refuse(b, refusal),
     }
-    accept(renew(b, side))
 }
 
 fn pf_lamp(pf: u32) -> u32
@@ -232,13 +241,8 @@ fn pf_lamp(pf: u32) -> u32
 fn lamps_of(b: Bench, side: u32) -> u32
     ensures { result ≡ lamps b side }
 {
-    let shared = b.shared;
-    let c = box_of(b, side);
-    let set = c.set;
-    let modes_lit = modes::numbers::mode_lamps(set);
-    let ap = modes::numbers::worth(shared.ap, 64);
-    let pf = pf_lamp(shared.pf);
-    modes_lit + ap + pf
+    let modes_lit = modes::numbers::mode_lamps(box_of(b, side).set);
+    modes_lit + modes::numbers::worth(b.shared.ap, 64) + pf_lamp(b.shared.pf)
 }
 
 #[tactic(auto, unfolding(crate::specs::Displays::shown))]
@@ -246,53 +250,26 @@ fn show(b: Bench, side: u32) -> Display
     ensures { result ≡ shown b side }
 {
     let c = box_of(b, side);
-    let set = c.set;
-    let references = c.references;
-    let lateral = modes::numbers::lateral_law(set);
-    let vertical = modes::numbers::vertical_law(set);
-    let armed = modes::numbers::armed_sum(set);
-    let lamps = lamps_of(b, side);
     Display {
         fd: c.fd,
-        lateral,
-        vertical,
-        armed,
-        references,
-        lamps,
-    }
-}
-
-fn blank_display() -> Display
-    ensures { result ≡ blank }
-{
-    let references = bench::parts::zero_references();
-    Display {
-        fd: false,
-        lateral: 0,
-        vertical: 0,
-        armed: 0,
-        references,
-        lamps: 0,
+        lateral: modes::numbers::lateral_law(c.set),
+        vertical: modes::numbers::vertical_law(c.set),
+        armed: modes::numbers::armed_sum(c.set),
+        references: c.references,
+        lamps: lamps_of(b, side),
     }
 }
 
 // What a side shows. The bench stays as it is.
-pub fn display(b: Bench, side: u32) -> DisplayAnswer
-    ensures { result ≡ display_answer b side }
+#[tactic(auto, unfolding(crate::specs::Calls::display_answer, crate::specs::Calls::next, crate::specs::Calls::refusal), using(crate::proofs::Answered::some_number))]
+pub fn display(b: Bench, side: u32) -> Answer<Display>
+    ensures { as_display_answer result ≡ display_answer b side }
 {
-    let refusal = refusal_of(b, side_refusal(side));
-    if refusal != 0 {
-        let display = blank_display();
-        return DisplayAnswer {
-            refusal,
-            display,
+    match permitted(b, known_side(side)) {
+        Ok(()) => Answer {
+            outcome: Ok(show(b, side)),
             bench: b,
-        };
-    }
-    let display = show(b, side);
-    DisplayAnswer {
-        refusal: 0,
-        display,
-        bench: b,
+        },
+        Err(refusal) => refuse(b, refusal),
     }
 }

@@ -1,32 +1,76 @@
 -- What the code computes and the paper's rules agree, each computed over all representable sets. Assumes nothing.
-use mathlib.Core.Path.{◌≡◌, sym, subst, ◌∙◌}
+use mathlib.Core.Path.{◌≡◌, refl, ap, subst}
+use mathlib.Core.Logic.{◌⊎◌, inl, inr}
 use mathlib.Core.Bool.{Bool, true, false, not, ◌&&◌, ◌||◌, cond}
 use Prim.Native.Nat.{ℕ}
-use lib.Dec.{T, eqb, ltb}
+use lib.Dec.{T, eqb, eqb_refl, ltb}
 use borrow.Author.Tests.{eq-eqb, ne_eqb}
 use Rattle.modes.specs.declared.Lateral.{Lateral}
 use Rattle.modes.specs.declared.Vertical.{Vertical}
+use Rattle.modes.specs.declared.Vertical.TheVariants.{Pitch, Vs, Flc, Alt, AltselCapture, AltselTrack, Vappr, Vga}
 use Rattle.modes.specs.declared.ArmedLateral.{ArmedLateral}
 use Rattle.modes.specs.declared.Modes.{Modes}
 use Rattle.modes.specs.Every.{every_modes, same_modes}
-use Rattle.modes.proofs.Every.{agree, agree_cases}
-use Rattle.modes.specs.Sets.{HDG, NAV, LAPPR, PITCH, VS, ALT, ALTSEL, VAPPR, arms_nav, arms_lappr, engaged, armed, cleared, with_lateral, with_vertical}
+use Rattle.modes.proofs.Finite.{same_place}
+use Rattle.modes.proofs.Every.{laterals, verticals, agree, agree_cases}
+use Rattle.modes.specs.Sets.{basic_modes, HDG, NAV, LAPPR, PITCH, VS, ALT, ALTSEL, VAPPR, arms_nav, arms_lappr, engaged, armed, cleared, with_lateral, with_vertical}
 use Rattle.modes.specs.Sets.{with_armed, with_vappr_armed, put, disarm, arm, drop, clear, engage}
 use Rattle.modes.specs.Numbers.{lateral_number, vertical_number}
 use Rattle.modes.specs.Events.{overspeed, go_around, clear_armed, take_basic, clear_navigation, capture, capture_vappr, track, switch, switch_nav, switch_appr, switch_flc}
 use Rattle.changes.specs.Private.{to_lateral, to_vertical}
 
--- ---- what an arm tells of the number n that a set shows: the local that is matched is `law`
+-- ---- what an arm tells of the number of the mode that it matched
 
-pub shows : {n law k : ℕ} → law ≡ n → law ≡ k → eqb n k ≡ true
-shows e h = eq-eqb _ _ (sym e ∙ h)
+pub lateral_is : {x k : Lateral} → x ≡ k → eqb (lateral_number x) (lateral_number k) ≡ true
+lateral_is e = eq-eqb _ _ (ap lateral_number e)
 
-pub shows_not : {n law k : ℕ} → law ≡ n → (law ≡ k → ⊥) → eqb n k ≡ false
-shows_not e h = ne_eqb _ _ (λ q. h (e ∙ q))
+pub lateral_not : {x k : Lateral} → (x ≡ k → ⊥) → eqb (lateral_number x) (lateral_number k) ≡ false
+lateral_not {x} {k} h = ne_eqb _ _ (λ q. h (same_place laterals x k (subst (λ (n : ℕ). T (eqb (lateral_number x) n)) q (eqb_refl (lateral_number x)))))
 
--- a ≤ n < b
-abbrev pub within : ℕ → ℕ → ℕ → Bool
-within a b n = not (ltb n a) && ltb n b
+pub vertical_is : {x k : Vertical} → x ≡ k → eqb (vertical_number x) (vertical_number k) ≡ true
+vertical_is e = eq-eqb _ _ (ap vertical_number e)
+
+pub vertical_not : {x k : Vertical} → (x ≡ k → ⊥) → eqb (vertical_number x) (vertical_number k) ≡ false
+vertical_not {x} {k} h = ne_eqb _ _ (λ q. h (same_place verticals x k (subst (λ (n : ℕ). T (eqb (vertical_number x) n)) q (eqb_refl (vertical_number x)))))
+
+-- ALT or ALTSEL is engaged
+abbrev holds_altitude : Vertical → Bool
+holds_altitude v = not (ltb (vertical_number v) 4) && ltb (vertical_number v) 7
+
+pub altitude_held : {v : Vertical} → (v ≡ Alt) ⊎ ((v ≡ AltselCapture) ⊎ (v ≡ AltselTrack)) → holds_altitude v ≡ true
+altitude_held (inl e) = ap holds_altitude e
+altitude_held (inr (inl e)) = ap holds_altitude e
+altitude_held (inr (inr e)) = ap holds_altitude e
+
+pub altitude_not_held : (v : Vertical) → (v ≡ Alt → ⊥) → (v ≡ AltselCapture → ⊥) → (v ≡ AltselTrack → ⊥) → holds_altitude v ≡ false
+altitude_not_held Pitch a b c = refl
+altitude_not_held Vs a b c = refl
+altitude_not_held Flc a b c = refl
+altitude_not_held Alt a b c = absurd (a refl)
+altitude_not_held AltselCapture a b c = absurd (b refl)
+altitude_not_held AltselTrack a b c = absurd (c refl)
+altitude_not_held Vappr a b c = refl
+altitude_not_held Vga a b c = refl
+
+-- a mode is engaged beside which ALTSEL is armed
+abbrev arms_altsel : Vertical → Bool
+arms_altsel v = ltb (vertical_number v) 4 || eqb (vertical_number v) 8
+
+pub altsel_armed : {v : Vertical} → (v ≡ Pitch) ⊎ ((v ≡ Vs) ⊎ ((v ≡ Flc) ⊎ (v ≡ Vga))) → arms_altsel v ≡ true
+altsel_armed (inl e) = ap arms_altsel e
+altsel_armed (inr (inl e)) = ap arms_altsel e
+altsel_armed (inr (inr (inl e))) = ap arms_altsel e
+altsel_armed (inr (inr (inr e))) = ap arms_altsel e
+
+pub altsel_not_armed : (v : Vertical) → (v ≡ Pitch → ⊥) → (v ≡ Vs → ⊥) → (v ≡ Flc → ⊥) → (v ≡ Vga → ⊥) → arms_altsel v ≡ false
+altsel_not_armed Pitch a b c d = absurd (a refl)
+altsel_not_armed Vs a b c d = absurd (b refl)
+altsel_not_armed Flc a b c d = absurd (c refl)
+altsel_not_armed Alt a b c d = refl
+altsel_not_armed AltselCapture a b c d = refl
+altsel_not_armed AltselTrack a b c d = refl
+altsel_not_armed Vappr a b c d = refl
+altsel_not_armed Vga a b c d = absurd (d refl)
 
 -- ---- rules without a test
 
@@ -38,9 +82,9 @@ pub gone_around : (m : Modes) → to_vertical Vertical.Vga (to_lateral Lateral.L
 unfolding engaged armed put disarm drop clear engage go_around
 gone_around = agree _ go_around tt
 
-pub basic_taken : (m : Modes) → with_vertical Vertical.Pitch (with_lateral Lateral.Roll (with_vappr_armed false (with_armed ArmedLateral.Neither m))) ≡ take_basic m
+pub basic_taken : (m : Modes) → basic_modes ≡ take_basic m
 unfolding engaged armed put disarm drop clear engage take_basic clear_armed
-basic_taken = agree _ take_basic tt
+basic_taken = agree (λ m. basic_modes) take_basic tt
 
 pub navigation_cleared : (m : Modes) → clear LAPPR (clear NAV m) ≡ clear_navigation m
 unfolding engaged armed put disarm drop clear engage clear_navigation
@@ -71,7 +115,7 @@ pub lappr_cleared : (m : Modes) (b : Bool) → eqb (lateral_number m.lateral) 4 
 unfolding engaged armed put disarm drop clear engage
 lappr_cleared = agree_cases _ _ _ (clear LAPPR) tt
 
-pub altsel_captured : (m : Modes) (b : Bool) → let n = vertical_number m.vertical in (within 1 4 n || eqb n 8) ≡ b →
+pub altsel_captured : (m : Modes) (b : Bool) → arms_altsel m.vertical ≡ b →
     cond b (with_vertical Vertical.AltselCapture m) m ≡ capture ALTSEL m
 unfolding engaged armed put disarm drop clear engage capture
 altsel_captured = agree_cases _ _ _ (capture ALTSEL) tt
@@ -100,7 +144,7 @@ by_both : {A : Type 0} (t : Modes → Bool) (s : Modes → A) (f g : A → Modes
 by_both {A} t s f g h p m b x e q =
     subst (λ (x : A). cond b (f x m) (g x m) ≡ h m) q (agree_cases t (λ m. f (s m) m) (λ m. g (s m) m) h p m b e)
 
-pub overspeed_begun : (flag : Bool) (m : Modes) (b x : Bool) → within 4 7 (vertical_number m.vertical) ≡ b → flag ≡ x →
+pub overspeed_begun : (flag : Bool) (m : Modes) (b x : Bool) → holds_altitude m.vertical ≡ b → flag ≡ x →
     cond b m (cond x m (to_vertical Vertical.Flc m)) ≡ overspeed flag m
 unfolding engaged armed put disarm drop clear engage overspeed
 overspeed_begun false = by_both _ _ _ _ (overspeed false) tt

@@ -1,62 +1,16 @@
 // What each event does to an On set. The paper's rules are in modes/specs/Events.antt; here they go
-// by the numbers of the laws and by what is armed.
+// by the modes that are engaged and by what is armed.
 #![tactic(auto)]
 
 ghost use Rattle.std.specs.Prelude.{◌≡◌, cond};
 ghost use Rattle.modes.specs.declared.ArmedLateral.{ArmedLateral};
-ghost use Rattle.modes.specs.Sets.{PITCH, NAV, LAPPR, HDG, VS, ALT, ALTSEL, VAPPR, clear, engage, with_lateral, with_vertical, with_armed, with_vappr_armed};
-ghost use Rattle.modes.specs.Events.{line_of, overspeed, take_basic, capture, capture_vappr, track, switch, switch_nav, switch_appr, switch_flc};
-ghost use Rattle.changes.specs.Private.{to_lateral, vappr_beside, to_vertical};
+ghost use Rattle.modes.specs.Sets.{PITCH, NAV, LAPPR, HDG, VS, ALT, ALTSEL, VAPPR, clear, engage};
+ghost use Rattle.modes.specs.Events.{line_of, overspeed, capture, capture_vappr, track, switch, switch_nav, switch_appr, switch_flc};
+ghost use Rattle.changes.specs.Private.{to_lateral, to_vertical};
 
-use modes::numbers::{arms_lappr, arms_nav, lateral_number, vertical_number};
+use modes::numbers::{arms_lappr, arms_nav};
+use modes::sets::basic_modes;
 use modes::{ArmedLateral, Event, Lateral, Modes, Vertical};
-
-fn with_lateral(m: Modes, l: Lateral) -> Modes
-    ensures { result ≡ with_lateral l m }
-{
-    let armed = m.armed;
-    let vertical = m.vertical;
-    Modes {
-        lateral: l,
-        armed,
-        vertical,
-        vappr_armed: m.vappr_armed,
-    }
-}
-
-fn with_vertical(m: Modes, v: Vertical) -> Modes
-    ensures { result ≡ with_vertical v m }
-{
-    let lateral = m.lateral;
-    let armed = m.armed;
-    Modes {
-        lateral,
-        armed,
-        vertical: v,
-        vappr_armed: m.vappr_armed,
-    }
-}
-
-fn with_armed(m: Modes, a: ArmedLateral) -> Modes
-    ensures { result ≡ with_armed a m }
-{
-    let lateral = m.lateral;
-    let vertical = m.vertical;
-    Modes {
-        lateral,
-        armed: a,
-        vertical,
-        vappr_armed: m.vappr_armed,
-    }
-}
-
-fn with_vappr_armed(m: Modes, f: bool) -> Modes
-    ensures { result ≡ with_vappr_armed f m }
-{
-    let mut next = m;
-    next.vappr_armed = f;
-    next
-}
 
 // The armed lateral mode, and none where its arming ends.
 fn armed_unless(ends: bool, a: ArmedLateral) -> ArmedLateral
@@ -65,44 +19,56 @@ fn armed_unless(ends: bool, a: ArmedLateral) -> ArmedLateral
     if ends { ArmedLateral::Neither } else { a }
 }
 
-// VAPPR neither armed nor engaged; where it was engaged (law 7), PITCH is.
+// VAPPR neither armed nor engaged; where it was engaged, PITCH is.
 fn clear_vappr(m: Modes) -> Modes
     ensures { result ≡ clear VAPPR m }
 {
-    let v = m.vertical;
-    let law = vertical_number(v);
-    let unarmed = with_vappr_armed(m, false);
-    match law {
-        7 => with_vertical(unarmed, Vertical::Pitch),
-        _ => unarmed,
+    let engaged = m.vertical;
+    match engaged {
+        Vertical::Vappr => Modes {
+            vertical: Vertical::Pitch,
+            vappr_armed: false,
+            ..m
+        },
+        _ => Modes {
+            vappr_armed: false,
+            ..m
+        },
     }
 }
 
-// LAPPR neither armed nor engaged (law 4), and VAPPR with it.
+// LAPPR neither armed nor engaged, and VAPPR with it.
 fn clear_lappr(m: Modes) -> Modes
     ensures { result ≡ clear LAPPR m }
 {
-    let l = m.lateral;
-    let a = m.armed;
-    let law = lateral_number(l);
-    let unarmed = with_armed(clear_vappr(m), armed_unless(arms_lappr(a), a));
-    match law {
-        4 => with_lateral(unarmed, Lateral::Roll),
-        _ => unarmed,
+    let engaged = m.lateral;
+    let armed = armed_unless(arms_lappr(m.armed), m.armed);
+    match engaged {
+        Lateral::Lappr => Modes {
+            lateral: Lateral::Roll,
+            armed,
+            ..clear_vappr(m)
+        },
+        _ => Modes {
+            armed,
+            ..clear_vappr(m)
+        },
     }
 }
 
-// NAV neither armed nor engaged (law 3).
+// NAV neither armed nor engaged.
 fn clear_nav(m: Modes) -> Modes
     ensures { result ≡ clear NAV m }
 {
-    let l = m.lateral;
-    let a = m.armed;
-    let law = lateral_number(l);
-    let unarmed = with_armed(m, armed_unless(arms_nav(a), a));
-    match law {
-        3 => with_lateral(unarmed, Lateral::Roll),
-        _ => unarmed,
+    let engaged = m.lateral;
+    let armed = armed_unless(arms_nav(m.armed), m.armed);
+    match engaged {
+        Lateral::Nav => Modes {
+            lateral: Lateral::Roll,
+            armed,
+            ..m
+        },
+        _ => Modes { armed, ..m },
     }
 }
 
@@ -110,34 +76,34 @@ fn clear_nav(m: Modes) -> Modes
 fn to_lateral(m: Modes, l: Lateral) -> Modes
     ensures { result ≡ to_lateral l m }
 {
-    let was = m.lateral;
-    let law = lateral_number(was);
-    match law {
-        3 => with_lateral(clear_nav(m), l),
-        4 => with_lateral(clear_lappr(m), l),
-        _ => with_lateral(m, l),
+    let left = m.lateral;
+    match left {
+        Lateral::Nav => Modes {
+            lateral: l,
+            ..clear_nav(m)
+        },
+        Lateral::Lappr => Modes {
+            lateral: l,
+            ..clear_lappr(m)
+        },
+        _ => Modes { lateral: l, ..m },
     }
 }
 
-// Whether VAPPR is armed when another vertical mode engages: one that was armed stays so, and one that
-// was engaged (law 7) is cleared.
-fn vappr_beside(law: u32, armed: bool) -> bool
-    ensures { result ≡ vappr_beside law armed }
-{
-    match law {
-        7 => false,
-        _ => armed,
-    }
-}
-
-// The vertical mode that is left is cleared. Only VAPPR has an arming of its own.
+// The vertical mode that is left is cleared. Only VAPPR has an arming of its own: one that was armed
+// stays so, and one that was engaged is cleared.
 fn to_vertical(m: Modes, v: Vertical) -> Modes
     ensures { result ≡ to_vertical v m }
 {
-    let was = m.vertical;
-    let law = vertical_number(was);
-    let armed = vappr_beside(law, m.vappr_armed);
-    with_vertical(with_vappr_armed(m, armed), v)
+    let left = m.vertical;
+    match left {
+        Vertical::Vappr => Modes {
+            vertical: v,
+            vappr_armed: false,
+            ..m
+        },
+        _ => Modes { vertical: v, ..m },
+    }
 }
 
 // PITCH engages: what a turned knob can ask for.
@@ -147,14 +113,14 @@ pub fn engage_pitch(m: Modes) -> Modes
     to_vertical(m, Vertical::Pitch)
 }
 
-// 2: FLC, unless ALT (law 4) or ALTSEL (5 and 6) is engaged or the flag was set already.
+// 2: FLC, unless ALT or ALTSEL is engaged or the flag was set already.
+// Stays: three of fifteen changes ask for the flag, so it is no part of what a change is made of.
 fn overspeed_begins(flag: bool, m: Modes) -> Modes
     ensures { result ≡ overspeed flag m }
 {
-    let v = m.vertical;
-    let law = vertical_number(v);
-    match law {
-        4..=6 => m,
+    let engaged = m.vertical;
+    match engaged {
+        Vertical::Alt | Vertical::AltselCapture | Vertical::AltselTrack => m,
         _ => if flag {
             m
         } else {
@@ -163,21 +129,15 @@ fn overspeed_begins(flag: bool, m: Modes) -> Modes
     }
 }
 
-// 5: what was armed on the side that takes over is cleared, and ROLL and PITCH engage.
-fn take_basic(m: Modes) -> Modes
-    ensures { result ≡ take_basic m }
-{
-    let unarmed = with_vappr_armed(with_armed(m, ArmedLateral::Neither), false);
-    with_vertical(with_lateral(unarmed, Lateral::Roll), Vertical::Pitch)
-}
-
 // 9
 fn nav_captured(m: Modes) -> Modes
     ensures { result ≡ capture NAV m }
 {
-    let a = m.armed;
-    if arms_nav(a) {
-        with_armed(to_lateral(m, Lateral::Nav), ArmedLateral::Neither)
+    if arms_nav(m.armed) {
+        Modes {
+            armed: ArmedLateral::Neither,
+            ..to_lateral(m, Lateral::Nav)
+        }
     } else {
         m
     }
@@ -187,23 +147,29 @@ fn nav_captured(m: Modes) -> Modes
 fn lappr_captured(m: Modes) -> Modes
     ensures { result ≡ capture LAPPR m }
 {
-    let a = m.armed;
-    if arms_lappr(a) {
-        with_armed(with_lateral(m, Lateral::Lappr), ArmedLateral::Neither)
+    if arms_lappr(m.armed) {
+        Modes {
+            lateral: Lateral::Lappr,
+            armed: ArmedLateral::Neither,
+            ..m
+        }
     } else {
         m
     }
 }
 
-// 11: VAPPR that is armed beside LAPPR (law 4).
+// 11: VAPPR that is armed beside an engaged LAPPR.
 fn vappr_captured(flag: bool, m: Modes) -> Modes
     ensures { result ≡ capture_vappr flag m }
 {
-    let l = m.lateral;
-    let law = lateral_number(l);
-    match law {
-        4 => if m.vappr_armed & !flag {
-            with_vappr_armed(with_vertical(m, Vertical::Vappr), false)
+    let engaged = m.lateral;
+    match engaged {
+        Lateral::Lappr => if m.vappr_armed & !flag {
+            Modes {
+                vertical: Vertical::Vappr,
+                vappr_armed: false,
+                ..m
+            }
         } else {
             m
         },
@@ -211,112 +177,135 @@ fn vappr_captured(flag: bool, m: Modes) -> Modes
     }
 }
 
-// 12: ALTSEL is armed beside laws 1 to 3 and 8.
+// 12: ALTSEL is armed beside four of the vertical modes.
 fn altsel_captured(m: Modes) -> Modes
     ensures { result ≡ capture ALTSEL m }
 {
-    let v = m.vertical;
-    let law = vertical_number(v);
-    match law {
-        1..=3 | 8 => with_vertical(m, Vertical::AltselCapture),
+    let engaged = m.vertical;
+    match engaged {
+        Vertical::Pitch | Vertical::Vs | Vertical::Flc | Vertical::Vga => {
+            Modes {
+                vertical: Vertical::AltselCapture,
+                ..m
+            }
+        }
         _ => m,
     }
 }
 
-// 13: ALTSEL in capture is law 5.
+// 13
 fn altsel_on_track(m: Modes) -> Modes
     ensures { result ≡ track m }
 {
-    let v = m.vertical;
-    let law = vertical_number(v);
-    match law {
-        5 => with_vertical(m, Vertical::AltselTrack),
+    let engaged = m.vertical;
+    match engaged {
+        Vertical::AltselCapture => Modes {
+            vertical: Vertical::AltselTrack,
+            ..m
+        },
         _ => m,
     }
 }
 
-// 14: HDG is law 2.
+// 14
+// Stays: the paper has modes decided by a match, and a pattern takes no parameter. So the switches of
+// HDG, VS and ALT do not become one function of a mode.
 fn hdg_switch(m: Modes) -> Modes
     ensures { result ≡ switch HDG m }
 {
-    let l = m.lateral;
-    let law = lateral_number(l);
-    match law {
-        2 => with_lateral(m, Lateral::Roll),
+    let engaged = m.lateral;
+    match engaged {
+        Lateral::Hdg => Modes {
+            lateral: Lateral::Roll,
+            ..m
+        },
         _ => to_lateral(m, Lateral::Hdg),
     }
 }
 
-// 15: NAV (law 3) is cleared or armed; armed, it takes the place of LAPPR.
+// 15: NAV, engaged or armed, is cleared; else it is armed, in place of LAPPR.
 fn nav_switch(m: Modes) -> Modes
     ensures { result ≡ switch_nav m }
 {
-    let l = m.lateral;
-    let a = m.armed;
-    let law = lateral_number(l);
-    match law {
-        3 => clear_nav(m),
-        _ => match a {
-            ArmedLateral::Neither => with_armed(m, ArmedLateral::Nav),
+    let engaged = m.lateral;
+    let armed = m.armed;
+    match engaged {
+        Lateral::Nav => clear_nav(m),
+        _ => match armed {
+            ArmedLateral::Neither => Modes {
+                armed: ArmedLateral::Nav,
+                ..m
+            },
             ArmedLateral::Nav => clear_nav(m),
-            ArmedLateral::Lappr => with_armed(clear_lappr(m), ArmedLateral::Nav),
+            ArmedLateral::Lappr => Modes {
+                armed: ArmedLateral::Nav,
+                ..clear_lappr(m)
+            },
         },
     }
 }
 
-// 16: LAPPR is law 4.
+// 16: LAPPR, engaged or armed, is cleared; else it and VAPPR are armed.
 fn appr_switch(m: Modes) -> Modes
     ensures { result ≡ switch_appr m }
 {
-    let l = m.lateral;
-    let a = m.armed;
-    let law = lateral_number(l);
-    match law {
-        4 => clear_lappr(m),
-        _ => if arms_lappr(a) {
+    let engaged = m.lateral;
+    match engaged {
+        Lateral::Lappr => clear_lappr(m),
+        _ => if arms_lappr(m.armed) {
             clear_lappr(m)
         } else {
-            with_vappr_armed(with_armed(m, ArmedLateral::Lappr), true)
+            Modes {
+                armed: ArmedLateral::Lappr,
+                vappr_armed: true,
+                ..m
+            }
         },
     }
 }
 
-// 17: VS is law 2.
+// 17
 fn vs_switch(m: Modes) -> Modes
     ensures { result ≡ switch VS m }
 {
-    let v = m.vertical;
-    let law = vertical_number(v);
-    match law {
-        2 => with_vertical(m, Vertical::Pitch),
+    let engaged = m.vertical;
+    match engaged {
+        Vertical::Vs => Modes {
+            vertical: Vertical::Pitch,
+            ..m
+        },
         _ => to_vertical(m, Vertical::Vs),
     }
 }
 
-// 18: FLC is law 3; while the flag is set it is not cleared.
+// 18: while the flag is set FLC is not cleared.
 fn flc_switch(flag: bool, m: Modes) -> Modes
     ensures { result ≡ switch_flc flag m }
 {
-    let v = m.vertical;
-    let law = vertical_number(v);
-    match law {
-        3 => if flag {
+    let engaged = m.vertical;
+    match engaged {
+        Vertical::Flc => if flag {
             m
         } else {
-            with_vertical(m, Vertical::Pitch)
+            Modes {
+                vertical: Vertical::Pitch,
+                ..m
+            }
         },
         _ => to_vertical(m, Vertical::Flc),
     }
 }
 
-// 19: ALT is law 4.
+// 19
 fn alt_switch(m: Modes) -> Modes
     ensures { result ≡ switch ALT m }
 {
-    let v = m.vertical;
-    let law = vertical_number(v);
-    match law {
-        4 => with_vertical(m, Vertical::Pitch),
+    let engaged = m.vertical;
+    match engaged {
+        Vertical::Alt => Modes {
+            vertical: Vertical::Pitch,
+            ..m
+        },
         _ => to_vertical(m, Vertical::Alt),
     }
 }
@@ -328,7 +317,8 @@ pub fn change(e: Event, flag: bool, m: Modes) -> Modes
     match e {
         Event::OverspeedBegins => overspeed_begins(flag, m),
         Event::GoAround => to_vertical(to_lateral(m, Lateral::Lga), Vertical::Vga),
-        Event::Transfer => take_basic(m),
+        // what was armed on the side that takes over is cleared, and ROLL and PITCH engage
+        Event::Transfer => basic_modes(),
         Event::SourceChanged => clear_lappr(clear_nav(m)),
         Event::NavCaptured => nav_captured(m),
         Event::LapprCaptured => lappr_captured(m),

@@ -15,7 +15,8 @@ use Rattle.bench.specs.Sound.{sound}
 use Rattle.bench.proofs.Replaced.{by_side}
 use Rattle.bench.proofs.StartLaws.{at_sound, by_start}
 use Rattle.calls.specs.declared.answers.Display.{Display}
-use Rattle.calls.specs.Calls.{Call, event, turn, reading, send, refresh, display, refusal, next, answer, event_answer, display_answer, reply}
+use Rattle.calls.specs.declared.call.Call.{Call}
+use Rattle.calls.specs.Calls.{refusal, next, answer, event_answer, display_answer, reply}
 use Rattle.soundness.proofs.Kept.{next_sound}
 use Rattle.claim.specs.Lists.{after, transfers, refreshes, sends, pilot_from, pilot_flying, None, OffThroughout}
 use Rattle.claim.specs.Claim.{display_from, SameShown, ShowsHeld, turned_away, PassiveRule, Claim, ClaimFrom, Refused, Claims}
@@ -39,36 +40,36 @@ module _ (start : Bench) (sound_start : sound start ≡ true) where
 
   -- ---- the passive side's rule, for a side s and the calls ahead of its last refresh
 
-  module _ (s : ℕ) (hs : s ≤ 1) (pre post : List Call) (off : OffThroughout (after start pre) (refresh s ∷ post)) (passive : pilot_from start.shared.pf pre ≡ s → ⊥)
+  module _ (s : ℕ) (hs : s ≤ 1) (pre post : List Call) (off : OffThroughout (after start pre) (Call.Refresh s ∷ post)) (passive : pilot_from start.shared.pf pre ≡ s → ⊥)
       (last : None (refreshes s) post) (kept : None transfers post) where
     -- s shows what its inbox held at the refresh
-    shows_inbox : ShowsHeld (inbox (after start pre) s) (display_from start (pre ++ (refresh s ∷ post)) s).display
+    shows_inbox : ShowsHeld (inbox (after start pre) s) (display_from start (pre ++ (Call.Refresh s ∷ post)) s).display
     shows_inbox =
         let b = after start pre in
         let h = sound_from pre in
         let flown : eqb s b.shared.pf ≡ false = ne_eqb s b.shared.pf (λ e. passive (sym (pilot_from_lem pre) ∙ sym e)) in
-        let still : eqb s (next b (refresh s)).shared.pf ≡ false = ap (eqb s) (step (refresh s) b h).pf ∙ flown in
-        let holds : Same (side (after (next b (refresh s)) post) s) (inbox b s) =
-        same_trans (passive_kept s hs post (next b (refresh s)) (next_sound b (refresh s) h) off.1 still last kept) (refreshed_side s hs b h (idle s b flown off.0)) in
-        shows (pre ++ (refresh s ∷ post)) s hs (inbox b s) (rw (after_append pre (refresh s ∷ post) start) holds)
+        let still : eqb s (next b (Call.Refresh s)).shared.pf ≡ false = ap (eqb s) (step (Call.Refresh s) b h).pf ∙ flown in
+        let holds : Same (side (after (next b (Call.Refresh s)) post) s) (inbox b s) =
+        same_trans (passive_kept s hs post (next b (Call.Refresh s)) (next_sound b (Call.Refresh s) h) off.1 still last kept) (refreshed_side s hs b h (idle s b flown off.0)) in
+        shows (pre ++ (Call.Refresh s ∷ post)) s hs (inbox b s) (rw (after_append pre (Call.Refresh s ∷ post) start) holds)
 
   -- what the inbox holds: what the other side held just before its last send, or what it held at the start
   inbox_sent : (s : ℕ) → s ≤ 1 → (ahead later : List Call) → None (sends (other_side s)) later
-      → inbox (after start (ahead ++ (send (other_side s) ∷ later))) s ≡ side (after start ahead) (other_side s)
+      → inbox (after start (ahead ++ (Call.Send (other_side s) ∷ later))) s ≡ side (after start ahead) (other_side s)
   inbox_sent s hs ahead later n =
       let b = after start ahead in
       let h = sound_from ahead in
-      rw (after_append ahead (send (other_side s) ∷ later) start)
-      (inbox_kept s hs later (next b (send (other_side s))) (next_sound b (send (other_side s)) h) n ∙ sent_inbox s hs b h)
+      rw (after_append ahead (Call.Send (other_side s) ∷ later) start)
+      (inbox_kept s hs later (next b (Call.Send (other_side s))) (next_sound b (Call.Send (other_side s)) h) n ∙ sent_inbox s hs b h)
 
   inbox_unsent : (s : ℕ) → s ≤ 1 → (pre : List Call) → None (sends (other_side s)) pre → inbox (after start pre) s ≡ inbox start s
   inbox_unsent s hs pre n = inbox_kept s hs pre start sound_start n
 
   -- the rule for a split of a list, with what an unsent side shows told by the inbox at the start
-  passive_from : (cs : List Call) (s : ℕ) → s ≤ 1 → (pre post : List Call) → cs ≡ pre ++ (refresh s ∷ post) → OffThroughout (after start pre) (refresh s ∷ post)
+  passive_from : (cs : List Call) (s : ℕ) → s ≤ 1 → (pre post : List Call) → cs ≡ pre ++ (Call.Refresh s ∷ post) → OffThroughout (after start pre) (Call.Refresh s ∷ post)
       → PassiveRule start (pilot_from start.shared.pf) (λ s d. ShowsHeld (inbox start s) d) s pre post (display_from start cs s).display
   passive_from cs s hs pre post e o p r t =
-      let d = (display_from start (pre ++ (refresh s ∷ post)) s).display in
+      let d = (display_from start (pre ++ (Call.Refresh s ∷ post)) s).display in
       let now-held = shows_inbox s hs pre post o p r t in
       rw e
       (record {
@@ -87,7 +88,7 @@ module _ (start : Bench) (sound_start : sound start ≡ true) where
     keeps = λ s hs. display_keeps (after start cs) (sound_from cs) s hs;
     both_on_approach = λ on s hs. display_approach (after start cs) (sound_from cs) s hs on;
     passive = passive_from cs;
-    passive_as_ever = λ o s hs pre post e. passive_from cs s hs pre post e (off_rest pre (refresh s ∷ post) start (rw e at o));
+    passive_as_ever = λ o s hs pre post e. passive_from cs s hs pre post e (off_rest pre (Call.Refresh s ∷ post) start (rw e at o));
   }
 
 -- ---- from a start
@@ -145,12 +146,12 @@ claim_power_on = claim (pos 120)
 
 unsound_reply : (b : Bench) → sound b ≡ false → (c : Call) → reply b c ≡ turned_away c
 unfolding refusal answer event_answer display_answer
-unsound_reply b h (event word) = rw h
-unsound_reply b h (turn knob n) = rw h
-unsound_reply b h (reading r) = rw h
-unsound_reply b h (send s) = rw h
-unsound_reply b h (refresh s) = rw h
-unsound_reply b h (display s) = rw h
+unsound_reply b h (Call.Event word) = rw h
+unsound_reply b h (Call.Turn knob n) = rw h
+unsound_reply b h (Call.Reading r) = rw h
+unsound_reply b h (Call.Send s) = rw h
+unsound_reply b h (Call.Refresh s) = rw h
+unsound_reply b h (Call.Display s) = rw h
 
 pub refused_from : (start : Bench) → sound start ≡ false → (cs : List Call) → Refused start cs
 refused_from start h [] = record { same_bench = refl; answers = refl }

@@ -23,7 +23,8 @@ use Rattle.bench.proofs.SoundParts.{by_cond, and_left, and_right}
 use Rattle.bench.proofs.Independent.{same_operation, sound_off, sound_stays}
 use Rattle.steps.specs.Steps.{acted}
 use Rattle.knobs.specs.Knobs.{referred, reference_moved, wheel_turned, altitude_turned, heading_turned, knob_turned, counted, turned}
-use Rattle.calls.specs.Calls.{Call, event, turn, reading, send, refresh, display, refusal, done, next, event_answer}
+use Rattle.calls.specs.declared.call.Call.{Call}
+use Rattle.calls.specs.Calls.{refusal, done, next, event_answer}
 use Rattle.claim.specs.Lists.{accepted, transfers}
 use Rattle.claim.specs.Independent.{IndependentLaws}
 use Rattle.claim.proofs.Sides.{turned_passive, ended_off}
@@ -98,10 +99,10 @@ pair_stays : (x : Bench) → both_approach x ≡ true → ended x ≡ x
 unfolding ended
 pair_stays x h = rw h
 
-turn_keeps : (b : Bench) (knob n : ℕ) → sound b ≡ true → (next b (turn knob n)).shared.independent ≡ b.shared.independent
+turn_keeps : (b : Bench) (knob n : ℕ) → sound b ≡ true → (next b (Call.Turn knob n)).shared.independent ≡ b.shared.independent
 turn_keeps b knob n h =
-    rw (next_is b (turn knob n) h)
-    (by_cond (λ (x : Bench). x.shared.independent ≡ b.shared.independent) (accepted (turn knob n)) _ _ (λ _. go b.shared.independent refl) (λ _. refl))
+    rw (next_is b (Call.Turn knob n) h)
+    (by_cond (λ (x : Bench). x.shared.independent ≡ b.shared.independent) (accepted (Call.Turn knob n)) _ _ (λ _. go b.shared.independent refl) (λ _. refl))
   where
     x : Bench
     x = turned knob n b
@@ -133,15 +134,15 @@ switch_answer b h = rw (h, switch_bench b h)
 -- ---- a transfer
 
 transfer_ends : (b : Bench) (c : Call) → sound b ≡ true → transfers c ≡ true → (next b c).shared.independent ≡ false
-transfer_ends b (event word) h t =
+transfer_ends b (Call.Event word) h t =
     let n = count_trailing_zeros 32 word in
-    let off = acted_transfer n b (and_right (accepted (event word)) (eqb n 5) t) in
-    rw (next_is b (event word) h, and_left (accepted (event word)) (eqb n 5) t) (ended_off (done (event word) b) off)
-transfer_ends b (turn knob n) h t = cc
-transfer_ends b (reading r) h t = cc
-transfer_ends b (send s) h t = cc
-transfer_ends b (refresh s) h t = cc
-transfer_ends b (display s) h t = cc
+    let off = acted_transfer n b (and_right (accepted (Call.Event word)) (eqb n 5) t) in
+    rw (next_is b (Call.Event word) h, and_left (accepted (Call.Event word)) (eqb n 5) t) (ended_off (done (Call.Event word) b) off)
+transfer_ends b (Call.Turn knob n) h t = cc
+transfer_ends b (Call.Reading r) h t = cc
+transfer_ends b (Call.Send s) h t = cc
+transfer_ends b (Call.Refresh s) h t = cc
+transfer_ends b (Call.Display s) h t = cc
 
 pub independent_laws : IndependentLaws
 independent_laws = record {

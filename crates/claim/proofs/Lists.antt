@@ -7,7 +7,8 @@ use lib.Dec.{eqb}
 use Rattle.bench.specs.declared.Bench.{Bench}
 use Rattle.bench.specs.Sides.{other_side, side, inbox, acts}
 use Rattle.bench.specs.Sound.{sound}
-use Rattle.calls.specs.Calls.{Call, refusal_in, next, own_refusal}
+use Rattle.calls.specs.declared.call.Call.{Call}
+use Rattle.calls.specs.Calls.{refusal_in, next, own_refusal}
 use Rattle.soundness.proofs.Kept.{next_sound}
 use Rattle.claim.specs.Lists.{after, replies, transfers, refreshes, sends, asks_independent, pilot_from, None, OffThroughout}
 use Rattle.claim.specs.Claim.{Served}

@@ -8,7 +8,8 @@ use lib.Dec.{eqb, leb}
 use lib.Ieee.Bits.{is_true}
 use lib.ListN.{drop}
 use lib.Count.{count_trailing_zeros}
-use Rattle.rounding.specs.declared.Whole.{Whole}
+use Rattle.rounding.specs.declared.NoWhole.{NoWhole}
+use Rattle.std.proofs.Common.{Result, Ok, Err, ℤ}
 use Rattle.modes.specs.declared.Event.{Event}
 use Rattle.modes.proofs.Finite.{every_pick, pick_past}
 use Rattle.modes.proofs.Laws.{mode_laws}
@@ -24,7 +25,8 @@ use Rattle.bench.specs.Sound.{sound}
 use Rattle.bench.proofs.Replaced.{by_side}
 use Rattle.steps.proofs.ByEvent.{by_event}
 use Rattle.steps.specs.Steps.{shared_after, with_fd_after, first_step, later_steps, three_steps, acted}
-use Rattle.calls.specs.Calls.{Call, event, turn, reading, send, refresh, display, side_refusal, own_refusal, refusal, received, done, next, answer, event_answer, display_answer, refusal_in, reply}
+use Rattle.calls.specs.declared.call.Call.{Call}
+use Rattle.calls.specs.Calls.{side_refusal, own_refusal, refusal, received, done, next, answer, event_answer, display_answer, refusal_in, reply}
 use Rattle.calls.specs.Sends.{sent, taken, refreshed}
 use Rattle.bench.proofs.SoundParts.{by_cond}
 use Rattle.claim.specs.Lists.{accepted, transfers, refreshes, sends, asks_independent}
@@ -35,12 +37,12 @@ use Rattle.claim.proofs.Sides.{Same, same, same_trans, box_other, box_written, i
 -- a reply names the call's refusal
 pub reply_refusal : (b : Bench) (c : Call) → refusal_in (reply b c) ≡ refusal b c
 unfolding answer event_answer display_answer
-reply_refusal b (event word) = refl
-reply_refusal b (turn knob n) = refl
-reply_refusal b (reading r) = refl
-reply_refusal b (send s) = refl
-reply_refusal b (refresh s) = refl
-reply_refusal b (display s) = refl
+reply_refusal b (Call.Event word) = refl
+reply_refusal b (Call.Turn knob n) = refl
+reply_refusal b (Call.Reading r) = refl
+reply_refusal b (Call.Send s) = refl
+reply_refusal b (Call.Refresh s) = refl
+reply_refusal b (Call.Display s) = refl
 
 -- on a sound bench a call is refused for its own arguments only
 pub own_refusal_lem : (b : Bench) (c : Call) → sound b ≡ true → refusal_in (reply b c) ≡ own_refusal c
@@ -55,10 +57,10 @@ next_is b c h = rw h
 abbrev Not1 : ℕ → Type 0
 Not1 n = n ≡ 1 → ⊥
 
-judged_not_1 : (r : Range) (w : Whole) → Not1 (judged r w)
-judged_not_1 r Whole.NotFinite = λ e. omega arith
-judged_not_1 r Whole.Beyond = λ e. omega arith
-judged_not_1 r (Whole.Value z) = by_cond Not1 (within r z) 0 6 (λ _ e. omega arith) (λ _ e. omega arith)
+judged_not_1 : (r : Range) (w : Result ℤ NoWhole) → Not1 (judged r w)
+judged_not_1 r (Err NoWhole.NotFinite) = λ e. omega arith
+judged_not_1 r (Err NoWhole.Beyond) = λ e. omega arith
+judged_not_1 r (Ok z) = by_cond Not1 (within r z) 0 6 (λ _ e. omega arith) (λ _ e. omega arith)
 
 side_not_1 : (s : ℕ) → Not1 (side_refusal s)
 side_not_1 s = by_cond Not1 (leb s 1) 0 2 (λ _ e. omega arith) (λ _ e. omega arith)
@@ -66,12 +68,12 @@ side_not_1 s = by_cond Not1 (leb s 1) 0 2 (λ _ e. omega arith) (λ _ e. omega a
 -- no call's own arguments give refusal 1
 pub own_not_1 : (c : Call) → Not1 (own_refusal c)
 unfolding refusal_of
-own_not_1 (event word) = by_cond Not1 (leb 2097152 word) 4 0 (λ _ e. omega arith) (λ _ e. omega arith)
-own_not_1 (turn knob n) = by_cond Not1 (leb knob 3) 0 3 (λ _ e. omega arith) (λ _ e. omega arith)
-own_not_1 (reading r) = judged_not_1 (reading_range r) (whole_reading r)
-own_not_1 (send s) = side_not_1 s
-own_not_1 (refresh s) = side_not_1 s
-own_not_1 (display s) = side_not_1 s
+own_not_1 (Call.Event word) = by_cond Not1 (leb 2097152 word) 4 0 (λ _ e. omega arith) (λ _ e. omega arith)
+own_not_1 (Call.Turn knob n) = by_cond Not1 (leb knob 3) 0 3 (λ _ e. omega arith) (λ _ e. omega arith)
+own_not_1 (Call.Reading r) = judged_not_1 (reading_range r) (whole_reading r)
+own_not_1 (Call.Send s) = side_not_1 s
+own_not_1 (Call.Refresh s) = side_not_1 s
+own_not_1 (Call.Display s) = side_not_1 s
 
 -- a side that is accepted is a side
 is_side : (s : ℕ) → eqb (side_refusal s) 0 ≡ true → s ≤ 1
@@ -186,12 +188,12 @@ refused_step : (c : Call) (b : Bench) → accepted c ≡ false → Step c b b
 refused_step c b e = record { pf = rw (still c e); inboxes = λ s hs k. refl; passive = λ s hs n k l. same refl; off = λ k h. h }
   where
     still : (c : Call) → accepted c ≡ false → transfers c ≡ false
-    still (event word) e = rw e
-    still (turn knob n) e = refl
-    still (reading r) e = refl
-    still (send s) e = refl
-    still (refresh s) e = refl
-    still (display s) e = refl
+    still (Call.Event word) e = rw e
+    still (Call.Turn knob n) e = refl
+    still (Call.Reading r) e = refl
+    still (Call.Send s) e = refl
+    still (Call.Refresh s) e = refl
+    still (Call.Display s) e = refl
 
 -- a test that holds leaves the other one
 and_rest : (t u v : Bool) → t ≡ true → (t && u) ≡ v → u ≡ v
@@ -208,7 +210,7 @@ inboxes_apart s t hs ht =
 pub other_side_lem : (s : ℕ) → other_side s ≤ 1
 other_side_lem s = by_cond (λ (n : ℕ). n ≤ 1) (eqb s 0) 1 0 (λ _. omega arith) (λ _. omega arith)
 
-send_step : (t : ℕ) (b : Bench) → accepted (send t) ≡ true → Step (send t) b (sent t b)
+send_step : (t : ℕ) (b : Bench) → accepted (Call.Send t) ≡ true → Step (Call.Send t) b (sent t b)
 unfolding sent
 send_step t b e = record {
   pf = unfold with_box in refl;
@@ -220,18 +222,18 @@ send_step t b e = record {
 -- what an accepted call does
 done_step : (c : Call) (b : Bench) → accepted c ≡ true → Step c b (done c b)
 unfolding received with_readings with_wholes
-done_step (event word) b e =
+done_step (Call.Event word) b e =
     let n = count_trailing_zeros 32 word in
     record { pf = rw e (acted_pf n b); inboxes = λ s hs k. acted_inbox n b s hs; passive = λ s hs p k l. acted_passive n b s hs p (and_rest _ _ _ e l); off = λ k h. acted_off n b (and_rest _ _ _ e k) h }
-done_step (turn knob n) b e =
+done_step (Call.Turn knob n) b e =
     let w = turned_passive knob n b in
     record { pf = rw w.shared; inboxes = λ s hs k. w.inboxes s hs; passive = λ s hs p k l. same (w.side_kept s hs p); off = λ k h. rw w.shared h }
-done_step (reading r) b e = record { pf = refl; inboxes = λ s hs k. refl; passive = λ s hs n k l. same refl; off = λ k h. h }
-done_step (send t) b e = send_step t b e
-done_step (refresh t) b e =
+done_step (Call.Reading r) b e = record { pf = refl; inboxes = λ s hs k. refl; passive = λ s hs n k l. same refl; off = λ k h. h }
+done_step (Call.Send t) b e = send_step t b e
+done_step (Call.Refresh t) b e =
     let w = refreshed_within t (is_side t e) b in
     record { pf = rw w.shared; inboxes = λ s hs k. w.inboxes s hs; passive = λ s hs p k l. same (w.other s hs (eqb-false t s (and_rest _ _ _ e k))); off = λ k h. rw w.shared h }
-done_step (display t) b e = record { pf = refl; inboxes = λ s hs k. refl; passive = λ s hs n k l. same refl; off = λ k h. h }
+done_step (Call.Display t) b e = record { pf = refl; inboxes = λ s hs k. refl; passive = λ s hs n k l. same refl; off = λ k h. h }
 
 -- and what is left when independent operation was looked at
 ended_step : (c : Call) (b x : Bench) → Step c b x → Step c b (ended x)
@@ -250,17 +252,17 @@ step c b h = rw (next_is b c h) (by_cond (Step c b) (accepted c) (ended (done c 
 -- ---- the two calls that the passive side's rule names
 
 -- a send of the other side puts what that side holds into the inbox
-pub sent_inbox : (s : ℕ) → s ≤ 1 → (b : Bench) → sound b ≡ true → inbox (next b (send (other_side s))) s ≡ side b (other_side s)
+pub sent_inbox : (s : ℕ) → s ≤ 1 → (b : Bench) → sound b ≡ true → inbox (next b (Call.Send (other_side s))) s ≡ side b (other_side s)
 unfolding sent with_box
 sent_inbox s hs b h =
-    by_side (λ (s : ℕ). inbox (next b (send (other_side s))) s ≡ side b (other_side s)) (rw (next_is b (send 1) h) ((ended_same (sent 1 b)).inboxes 0))
-    (rw (next_is b (send 0) h) ((ended_same (sent 0 b)).inboxes 1)) s hs
+    by_side (λ (s : ℕ). inbox (next b (Call.Send (other_side s))) s ≡ side b (other_side s)) (rw (next_is b (Call.Send 1) h) ((ended_same (sent 1 b)).inboxes 0))
+    (rw (next_is b (Call.Send 0) h) ((ended_same (sent 0 b)).inboxes 1)) s hs
 
 -- a side that does not act has, after its refresh, the set and references that its inbox held
-pub refreshed_side : (s : ℕ) → s ≤ 1 → (b : Bench) → sound b ≡ true → acts b s ≡ false → Same (side (next b (refresh s)) s) (inbox b s)
+pub refreshed_side : (s : ℕ) → s ≤ 1 → (b : Bench) → sound b ≡ true → acts b s ≡ false → Same (side (next b (Call.Refresh s)) s) (inbox b s)
 unfolding refreshed taken with_set with_references
 refreshed_side s hs b h n =
-    rw (next_is b (refresh s) h, side_accepted s hs)
+    rw (next_is b (Call.Refresh s) h, side_accepted s hs)
     (same_trans (same ((ended_same (refreshed s b)).sides s)) (rw n (same_trans (same (box_written s _ b (omega arith))) (record { set = refl; references = refl }))))
 
 -- ---- on an unsound bench every call is refused with 1, and hands the bench back

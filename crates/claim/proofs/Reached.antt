@@ -6,7 +6,7 @@ use mathlib.Core.List.{List, [], ◌∷◌, ◌++◌}
 use Prim.Native.Nat.{ℕ, zero, suc, ◌≤◌}
 use native.Mathlib.Omega.{arith}
 use borrow.Author.Tests.{eqb-true}
-use Rattle.calls.specs.Calls.{Call, event, turn, reading, send, refresh, display}
+use Rattle.calls.specs.declared.call.Call.{Call}
 use Rattle.claim.specs.Lists.{accepted, refreshes, sends, None}
 use Rattle.claim.specs.Reached.{Lateral, Vertical, TurnsOn, Ends, Speaks, SpeaksUnsent, SpeaksAgain, Silent, Last, Reached}
 use Rattle.claim.proofs.Computing.{rules}
@@ -15,57 +15,57 @@ use Rattle.claim.proofs.Computing.{rules}
 lateral : (n : ℕ) → 1 ≤ n → n ≤ 5 → Lateral n
 unfolding rules
 lateral zero h k = absurd (omega arith)
-lateral (suc zero) h k = record { calls = event 64 ∷ []; side = 0; accepted = refl; law = refl }
-lateral (suc (suc zero)) h k = record { calls = event 16384 ∷ []; side = 0; accepted = refl; law = refl }
-lateral (suc (suc (suc zero))) h k = record { calls = event 32768 ∷ event 512 ∷ []; side = 0; accepted = refl; law = refl }
-lateral (suc (suc (suc (suc zero)))) h k = record { calls = event 65536 ∷ event 1024 ∷ []; side = 0; accepted = refl; law = refl }
-lateral (suc (suc (suc (suc (suc zero))))) h k = record { calls = event 16 ∷ []; side = 0; accepted = refl; law = refl }
+lateral (suc zero) h k = record { calls = Call.Event 64 ∷ []; side = 0; accepted = refl; law = refl }
+lateral (suc (suc zero)) h k = record { calls = Call.Event 16384 ∷ []; side = 0; accepted = refl; law = refl }
+lateral (suc (suc (suc zero))) h k = record { calls = Call.Event 32768 ∷ Call.Event 512 ∷ []; side = 0; accepted = refl; law = refl }
+lateral (suc (suc (suc (suc zero)))) h k = record { calls = Call.Event 65536 ∷ Call.Event 1024 ∷ []; side = 0; accepted = refl; law = refl }
+lateral (suc (suc (suc (suc (suc zero))))) h k = record { calls = Call.Event 16 ∷ []; side = 0; accepted = refl; law = refl }
 lateral (suc (suc (suc (suc (suc (suc n)))))) h k = absurd (omega arith)
 
 -- PITCH, VS, FLC, ALT, ALTSEL in capture and on track, VAPPR and VGA, all on the left side
 vertical : (n : ℕ) → 1 ≤ n → n ≤ 8 → Vertical n
 unfolding rules
 vertical zero h k = absurd (omega arith)
-vertical (suc zero) h k = record { calls = event 64 ∷ []; side = 0; accepted = refl; law = refl }
-vertical (suc (suc zero)) h k = record { calls = event 131072 ∷ []; side = 0; accepted = refl; law = refl }
-vertical (suc (suc (suc zero))) h k = record { calls = event 262144 ∷ []; side = 0; accepted = refl; law = refl }
-vertical (suc (suc (suc (suc zero)))) h k = record { calls = event 524288 ∷ []; side = 0; accepted = refl; law = refl }
-vertical (suc (suc (suc (suc (suc zero))))) h k = record { calls = event 64 ∷ event 4096 ∷ []; side = 0; accepted = refl; law = refl }
-vertical (suc (suc (suc (suc (suc (suc zero)))))) h k = record { calls = event 64 ∷ event 4096 ∷ event 8192 ∷ []; side = 0; accepted = refl; law = refl }
-vertical (suc (suc (suc (suc (suc (suc (suc zero))))))) h k = record { calls = event 65536 ∷ event 1024 ∷ event 2048 ∷ []; side = 0; accepted = refl; law = refl }
-vertical (suc (suc (suc (suc (suc (suc (suc (suc zero)))))))) h k = record { calls = event 16 ∷ []; side = 0; accepted = refl; law = refl }
+vertical (suc zero) h k = record { calls = Call.Event 64 ∷ []; side = 0; accepted = refl; law = refl }
+vertical (suc (suc zero)) h k = record { calls = Call.Event 131072 ∷ []; side = 0; accepted = refl; law = refl }
+vertical (suc (suc (suc zero))) h k = record { calls = Call.Event 262144 ∷ []; side = 0; accepted = refl; law = refl }
+vertical (suc (suc (suc (suc zero)))) h k = record { calls = Call.Event 524288 ∷ []; side = 0; accepted = refl; law = refl }
+vertical (suc (suc (suc (suc (suc zero))))) h k = record { calls = Call.Event 64 ∷ Call.Event 4096 ∷ []; side = 0; accepted = refl; law = refl }
+vertical (suc (suc (suc (suc (suc (suc zero)))))) h k = record { calls = Call.Event 64 ∷ Call.Event 4096 ∷ Call.Event 8192 ∷ []; side = 0; accepted = refl; law = refl }
+vertical (suc (suc (suc (suc (suc (suc (suc zero))))))) h k = record { calls = Call.Event 65536 ∷ Call.Event 1024 ∷ Call.Event 2048 ∷ []; side = 0; accepted = refl; law = refl }
+vertical (suc (suc (suc (suc (suc (suc (suc (suc zero)))))))) h k = record { calls = Call.Event 16 ∷ []; side = 0; accepted = refl; law = refl }
 vertical (suc (suc (suc (suc (suc (suc (suc (suc (suc n))))))))) h k = absurd (omega arith)
 
 -- ---- independent operation
 
 -- left flies an approach: APPR, and the signals of LAPPR and VAPPR
 abbrev approach : List Call
-approach = event 65536 ∷ event 1024 ∷ event 2048 ∷ []
+approach = Call.Event 65536 ∷ Call.Event 1024 ∷ Call.Event 2048 ∷ []
 
 -- and right takes it over, so that both have the pair
 abbrev both : List Call
-both = approach ++ (send 0 ∷ refresh 1 ∷ [])
+both = approach ++ (Call.Send 0 ∷ Call.Refresh 1 ∷ [])
 
 -- the flight directors of both sides reach the other's inbox On and are then pressed Off, so that each side stays on by its inbox alone
 abbrev by_inboxes : List Call
-by_inboxes = approach ++ (event 128 ∷ send 1 ∷ send 0 ∷ refresh 1 ∷ event 1048576 ∷ event 128 ∷ event 64 ∷ [])
+by_inboxes = approach ++ (Call.Event 128 ∷ Call.Send 1 ∷ Call.Send 0 ∷ Call.Refresh 1 ∷ Call.Event 1048576 ∷ Call.Event 128 ∷ Call.Event 64 ∷ [])
 
-turned_on : TurnsOn (event 1048576)
+turned_on : TurnsOn (Call.Event 1048576)
 unfolding rules
 turned_on = record { calls = both; before = refl; on = refl }
 
-ended_by_event : Ends (event 131072)
+ended_by_event : Ends (Call.Event 131072)
 unfolding rules
-ended_by_event = record { calls = both ++ (event 1048576 ∷ []); before = refl; over = refl }
+ended_by_event = record { calls = both ++ (Call.Event 1048576 ∷ []); before = refl; over = refl }
 
-ended_by_transfer : Ends (event 32)
+ended_by_transfer : Ends (Call.Event 32)
 unfolding rules
-ended_by_transfer = record { calls = both ++ (event 1048576 ∷ []); before = refl; over = refl }
+ended_by_transfer = record { calls = both ++ (Call.Event 1048576 ∷ []); before = refl; over = refl }
 
 -- left sends its flight director, now Off, and with it right has nothing left that keeps it on
-ended_by_refresh : Ends (refresh 1)
+ended_by_refresh : Ends (Call.Refresh 1)
 unfolding rules
-ended_by_refresh = record { calls = by_inboxes ++ (send 0 ∷ []); before = refl; over = refl }
+ended_by_refresh = record { calls = by_inboxes ++ (Call.Send 0 ∷ []); before = refl; over = refl }
 
 silent : Silent 1
 unfolding rules
@@ -87,9 +87,9 @@ silent = record {
 speaks_right : Speaks 1
 unfolding rules
 speaks_right = record {
-  ahead = event 16384 ∷ [];
-  later = event 131072 ∷ send 2 ∷ [];
-  post = event 16384 ∷ event 128 ∷ send 0 ∷ refresh 0 ∷ refresh 2 ∷ turn 0 7 ∷ display 1 ∷ [];
+  ahead = Call.Event 16384 ∷ [];
+  later = Call.Event 131072 ∷ Call.Send 2 ∷ [];
+  post = Call.Event 16384 ∷ Call.Event 128 ∷ Call.Send 0 ∷ Call.Refresh 0 ∷ Call.Refresh 2 ∷ Call.Turn 0 7 ∷ Call.Display 1 ∷ [];
   is_side = omega arith;
   off = (refl, (refl, (refl, (refl, (refl, (refl, (refl, (refl, refl))))))));
   passive = λ e. omega arith;
@@ -105,9 +105,9 @@ speaks_right = record {
 speaks_left : Speaks 0
 unfolding rules
 speaks_left = record {
-  ahead = event 32 ∷ event 16384 ∷ [];
-  later = send 0 ∷ [];
-  post = event 16384 ∷ send 1 ∷ [];
+  ahead = Call.Event 32 ∷ Call.Event 16384 ∷ [];
+  later = Call.Send 0 ∷ [];
+  post = Call.Event 16384 ∷ Call.Send 1 ∷ [];
   is_side = omega arith;
   off = (refl, (refl, (refl, refl)));
   passive = λ e. omega arith;
@@ -123,8 +123,8 @@ speaks_left = record {
 speaks_unsent : SpeaksUnsent 0
 unfolding rules
 speaks_unsent = record {
-  pre = event 16384 ∷ send 0 ∷ event 32 ∷ event 128 ∷ [];
-  post = send 1 ∷ [];
+  pre = Call.Event 16384 ∷ Call.Send 0 ∷ Call.Event 32 ∷ Call.Event 128 ∷ [];
+  post = Call.Send 1 ∷ [];
   is_side = omega arith;
   off_all_along = (refl, (refl, (refl, (refl, (refl, (refl, refl))))));
   passive = λ e. omega arith;
@@ -141,9 +141,9 @@ speaks_again : SpeaksAgain 1
 unfolding rules
 speaks_again = record {
   speaks = record {
-    ahead = both ++ (event 1048576 ∷ event 16384 ∷ []);
+    ahead = both ++ (Call.Event 1048576 ∷ Call.Event 16384 ∷ []);
     later = [];
-    post = event 16384 ∷ [];
+    post = Call.Event 16384 ∷ [];
     is_side = omega arith;
     off = (refl, (refl, refl));
     passive = λ e. omega arith;
@@ -154,8 +154,8 @@ speaks_again = record {
     at_power_on = refl;
     other_law = refl;
   };
-  early = both ++ (event 1048576 ∷ []);
-  more = event 16384 ∷ [];
+  early = both ++ (Call.Event 1048576 ∷ []);
+  more = Call.Event 16384 ∷ [];
   split = refl;
   was_on = refl;
 }
@@ -172,21 +172,21 @@ module _ (kind : Call → Bool) (c : Call) (only : (x : Call) → kind x ≡ tru
       go false e (inr n) = inr (e, n)
 
 -- an accepted send of side s is the call `send s`
-only_send : (s : ℕ) (x : Call) → sends s x ≡ true → x ≡ send s
-only_send s (event word) e = cc
-only_send s (turn knob n) e = cc
-only_send s (reading r) e = cc
-only_send s (send t) e = ap send (eqb-true t s ((and-eq-true_iff (accepted (send t)) _).0 e).1)
-only_send s (refresh t) e = cc
-only_send s (display t) e = cc
+only_send : (s : ℕ) (x : Call) → sends s x ≡ true → x ≡ Call.Send s
+only_send s (Call.Event word) e = cc
+only_send s (Call.Turn knob n) e = cc
+only_send s (Call.Reading r) e = cc
+only_send s (Call.Send t) e = ap Call.Send (eqb-true t s ((and-eq-true_iff (accepted (Call.Send t)) _).0 e).1)
+only_send s (Call.Refresh t) e = cc
+only_send s (Call.Display t) e = cc
 
-only_refresh : (s : ℕ) (x : Call) → refreshes s x ≡ true → x ≡ refresh s
-only_refresh s (event word) e = cc
-only_refresh s (turn knob n) e = cc
-only_refresh s (reading r) e = cc
-only_refresh s (send t) e = cc
-only_refresh s (refresh t) e = ap refresh (eqb-true t s ((and-eq-true_iff (accepted (refresh t)) _).0 e).1)
-only_refresh s (display t) e = cc
+only_refresh : (s : ℕ) (x : Call) → refreshes s x ≡ true → x ≡ Call.Refresh s
+only_refresh s (Call.Event word) e = cc
+only_refresh s (Call.Turn knob n) e = cc
+only_refresh s (Call.Reading r) e = cc
+only_refresh s (Call.Send t) e = cc
+only_refresh s (Call.Refresh t) e = ap Call.Refresh (eqb-true t s ((and-eq-true_iff (accepted (Call.Refresh t)) _).0 e).1)
+only_refresh s (Call.Display t) e = cc
 
 pub reached : Reached
 unfolding rules
@@ -202,8 +202,8 @@ reached = record {
   speaks_unsent = speaks_unsent;
   speaks_again = speaks_again;
   silent = silent;
-  last_send = λ s. last (sends s) (send s) (only_send s);
-  last_refresh = λ s. last (refreshes s) (refresh s) (only_refresh s);
+  last_send = λ s. last (sends s) (Call.Send s) (only_send s);
+  last_refresh = λ s. last (refreshes s) (Call.Refresh s) (only_refresh s);
   started_at_90 = refl;
   refused_at_59 = refl;
 }

@@ -11,9 +11,10 @@ use Rattle.bench.specs.Holds.{power_on, started}
 use Rattle.bench.specs.Sides.{other_side, side, inbox}
 use Rattle.bench.specs.Sound.{sound}
 use Rattle.calls.specs.declared.answers.Display.{Display}
-use Rattle.calls.specs.declared.answers.DisplayAnswer.{DisplayAnswer}
+use Rattle.calls.specs.Answers.{DisplayAnswer}
 use Rattle.calls.specs.Displays.{blank}
-use Rattle.calls.specs.Calls.{Call, event, turn, reading, send, refresh, display, own_refusal, display_answer, Reply, plain, told, shows, refusal_in}
+use Rattle.calls.specs.declared.call.Call.{Call}
+use Rattle.calls.specs.Calls.{own_refusal, display_answer, Reply, plain, told, shows, refusal_in}
 use Rattle.claim.specs.Lists.{after, replies, transfers, refreshes, sends, pilot_from, pilot_flying, None, OffThroughout}
 
 -- ---- what a display shows
@@ -75,12 +76,12 @@ Served (r ∷ more) = (refusal_in r ≡ 1 → ⊥) × Served more
 
 -- what a call on an unsound bench is answered: refusal 1, beside it 32 for an event and zeros for a display
 abbrev pub turned_away : Call → Reply
-turned_away (event word) = told 1 32
-turned_away (turn knob n) = plain 1
-turned_away (reading r) = plain 1
-turned_away (send s) = plain 1
-turned_away (refresh s) = plain 1
-turned_away (display s) = shows 1 blank
+turned_away (Call.Event word) = told 1 32
+turned_away (Call.Turn knob n) = plain 1
+turned_away (Call.Reading r) = plain 1
+turned_away (Call.Send s) = plain 1
+turned_away (Call.Refresh s) = plain 1
+turned_away (Call.Display s) = shows 1 blank
 
 -- ---- the passive side's rule
 
@@ -88,7 +89,7 @@ turned_away (display s) = shows 1 blank
 -- other side, `pre` are the calls ahead of the refresh, and `Unsent` is what d shows where none of them is an accepted send of `other`
 pub record ShowsSent (start : Bench) (Unsent : Display → Type 0) (other : ℕ) (pre : List Call) (d : Display) : Type 0 where
   -- the same as the other side's display after `ahead`: its last accepted send stands between `ahead` and `later`
-  pub sent : (ahead later : List Call) → pre ≡ ahead ++ (send other ∷ later) → None (sends other) later
+  pub sent : (ahead later : List Call) → pre ≡ ahead ++ (Call.Send other ∷ later) → None (sends other) later
       → SameShown d (display_from start ahead other).display
   pub unsent : None (sends other) pre → Unsent d
 
@@ -119,11 +120,11 @@ pub record ClaimOf (start : Bench) (pilot : List Call → ℕ) (Unsent : ℕ →
       → ((display_from start cs s).display.lateral ≡ 4) × ((display_from start cs s).display.vertical ≡ 7)
   -- the passive side's rule. It speaks where independent operation was off when the last refresh came and has been off ever since: so not while it is on, and not after
   -- a refresh that ended it, which had found it on
-  pub passive : (s : ℕ) → s ≤ 1 → (pre post : List Call) → cs ≡ pre ++ (refresh s ∷ post)
-      → OffThroughout (after start pre) (refresh s ∷ post)
+  pub passive : (s : ℕ) → s ≤ 1 → (pre post : List Call) → cs ≡ pre ++ (Call.Refresh s ∷ post)
+      → OffThroughout (after start pre) (Call.Refresh s ∷ post)
       → PassiveRule start pilot Unsent s pre post (display_from start cs s).display
   -- where it was never on, that is document 01's rule, with nothing more asked of the list
-  pub passive_as_ever : OffThroughout start cs → (s : ℕ) → s ≤ 1 → (pre post : List Call) → cs ≡ pre ++ (refresh s ∷ post)
+  pub passive_as_ever : OffThroughout start cs → (s : ℕ) → s ≤ 1 → (pre post : List Call) → cs ≡ pre ++ (Call.Refresh s ∷ post)
       → PassiveRule start pilot Unsent s pre post (display_from start cs s).display
 
 -- demand 3, from the bench of a start, which is what it means by power-on: left has PF at first, and a side to which nothing was sent shows what the other side's

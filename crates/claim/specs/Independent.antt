@@ -4,7 +4,8 @@ use Rattle.std.specs.Prelude.{◌≡◌, true, false, List, ℕ}
 use Rattle.bench.specs.declared.Bench.{Bench}
 use Rattle.bench.specs.Independent.{both_approach, with_operation}
 use Rattle.bench.specs.Sound.{sound}
-use Rattle.calls.specs.Calls.{Call, turn, next, event_answer}
+use Rattle.calls.specs.declared.call.Call.{Call}
+use Rattle.calls.specs.Calls.{next, event_answer}
 use Rattle.claim.specs.Lists.{transfers, asks_independent, None, OffThroughout}
 
 pub record IndependentLaws : Type 0 where
@@ -15,6 +16,6 @@ pub record IndependentLaws : Type 0 where
   -- so that a list without that switch never has it on
   pub never_on : (b : Bench) (cs : List Call) → sound b ≡ true → b.shared.independent ≡ false → None asks_independent cs → OffThroughout b cs
   -- no turn of a knob ends it, nor turns it on
-  pub turn : (b : Bench) (knob n : ℕ) → sound b ≡ true → (next b (turn knob n)).shared.independent ≡ b.shared.independent
+  pub turn : (b : Bench) (knob n : ℕ) → sound b ≡ true → (next b (Call.Turn knob n)).shared.independent ≡ b.shared.independent
   -- after a transfer it is off
   pub transfer : (b : Bench) (c : Call) → sound b ≡ true → transfers c ≡ true → (next b c).shared.independent ≡ false

@@ -4,7 +4,8 @@ use Rattle.std.specs.Prelude.{◌≡◌, Bool, false, ◌&&◌, cond, List, [], 
 use Rattle.std.specs.Int.Count.{count_trailing_zeros}
 use Rattle.bench.specs.declared.Bench.{Bench}
 use Rattle.bench.specs.Sides.{other_side}
-use Rattle.calls.specs.Calls.{Call, event, turn, reading, send, refresh, display, own_refusal, next, Reply, reply}
+use Rattle.calls.specs.declared.call.Call.{Call}
+use Rattle.calls.specs.Calls.{own_refusal, next, Reply, reply}
 
 -- ---- a list of calls by the rules: the bench is handed on from call to call
 
@@ -24,12 +25,12 @@ accepted c = eqb (own_refusal c) 0
 
 -- accepted, and acting on event e: a word whose lowest set bit is e
 abbrev pub acts_on : ℕ → Call → Bool
-acts_on e (event word) = accepted (event word) && eqb (count_trailing_zeros 32 word) e
-acts_on e (turn knob n) = false
-acts_on e (reading r) = false
-acts_on e (send t) = false
-acts_on e (refresh t) = false
-acts_on e (display t) = false
+acts_on e (Call.Event word) = accepted (Call.Event word) && eqb (count_trailing_zeros 32 word) e
+acts_on e (Call.Turn knob n) = false
+acts_on e (Call.Reading r) = false
+acts_on e (Call.Send t) = false
+acts_on e (Call.Refresh t) = false
+acts_on e (Call.Display t) = false
 
 abbrev pub transfers : Call → Bool
 transfers c = acts_on 5 c
@@ -40,21 +41,21 @@ asks_independent c = acts_on 20 c
 
 -- accepted, and a refresh of side s
 abbrev pub refreshes : ℕ → Call → Bool
-refreshes s (event word) = false
-refreshes s (turn knob n) = false
-refreshes s (reading r) = false
-refreshes s (send t) = false
-refreshes s (refresh t) = accepted (refresh t) && eqb t s
-refreshes s (display t) = false
+refreshes s (Call.Event word) = false
+refreshes s (Call.Turn knob n) = false
+refreshes s (Call.Reading r) = false
+refreshes s (Call.Send t) = false
+refreshes s (Call.Refresh t) = accepted (Call.Refresh t) && eqb t s
+refreshes s (Call.Display t) = false
 
 -- accepted, and a send of side s
 abbrev pub sends : ℕ → Call → Bool
-sends s (event word) = false
-sends s (turn knob n) = false
-sends s (reading r) = false
-sends s (send t) = accepted (send t) && eqb t s
-sends s (refresh t) = false
-sends s (display t) = false
+sends s (Call.Event word) = false
+sends s (Call.Turn knob n) = false
+sends s (Call.Reading r) = false
+sends s (Call.Send t) = accepted (Call.Send t) && eqb t s
+sends s (Call.Refresh t) = false
+sends s (Call.Display t) = false
 
 -- the pilot flying's side after a list that began with side p, moved by each transfer
 abbrev pub pilot_from : ℕ → List Call → ℕ

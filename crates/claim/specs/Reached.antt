@@ -4,7 +4,7 @@
 use Rattle.std.specs.Prelude.{◌≡◌, Bool, true, false, ◌⊎◌, List, [], ◌∷◌, ◌++◌, ℕ, ◌≤◌, ℤ, pos}
 use Rattle.bench.specs.Sides.{other_side}
 use Rattle.bench.specs.Holds.{power_on, started}
-use Rattle.calls.specs.Calls.{Call, event, send, refresh}
+use Rattle.calls.specs.declared.call.Call.{Call}
 use Rattle.claim.specs.Lists.{after, transfers, refreshes, sends, pilot_flying, None, OffThroughout}
 use Rattle.claim.specs.Claim.{display_from, display_after}
 
@@ -43,28 +43,28 @@ pub record Speaks (side : ℕ) : Type 0 where
   pub later : List Call
   pub post : List Call
   pub is_side : side ≤ 1
-  pub off : OffThroughout (after power_on (ahead ++ (send (other_side side) ∷ later))) (refresh side ∷ post)
-  pub passive : pilot_flying (ahead ++ (send (other_side side) ∷ later)) ≡ side → ⊥
+  pub off : OffThroughout (after power_on (ahead ++ (Call.Send (other_side side) ∷ later))) (Call.Refresh side ∷ post)
+  pub passive : pilot_flying (ahead ++ (Call.Send (other_side side) ∷ later)) ≡ side → ⊥
   pub last_send : None (sends (other_side side)) later
   pub last_refresh : None (refreshes side) post
   pub no_transfer : None transfers post
-  pub law : (display_after (ahead ++ (send (other_side side) ∷ later) ++ (refresh side ∷ post)) side).display.lateral ≡ 2
+  pub law : (display_after (ahead ++ (Call.Send (other_side side) ∷ later) ++ (Call.Refresh side ∷ post)) side).display.lateral ≡ 2
   pub at_power_on : (display_after [] side).display.lateral ≡ 0
-  pub other_law : (display_after (ahead ++ (send (other_side side) ∷ later) ++ (refresh side ∷ post)) (other_side side)).display.lateral ≡ 1
+  pub other_law : (display_after (ahead ++ (Call.Send (other_side side) ∷ later) ++ (Call.Refresh side ∷ post)) (other_side side)).display.lateral ≡ 1
 
 -- the same with no send ahead: the side shows a law that it loses at the refresh, and then the law of power-on, which is not the other side's
 pub record SpeaksUnsent (side : ℕ) : Type 0 where
   pub pre : List Call
   pub post : List Call
   pub is_side : side ≤ 1
-  pub off_all_along : OffThroughout power_on (pre ++ (refresh side ∷ post))
+  pub off_all_along : OffThroughout power_on (pre ++ (Call.Refresh side ∷ post))
   pub passive : pilot_flying pre ≡ side → ⊥
   pub unsent : None (sends (other_side side)) pre
   pub last_refresh : None (refreshes side) post
   pub no_transfer : None transfers post
   pub law_before : (display_after pre side).display.lateral ≡ 2
-  pub law : (display_after (pre ++ (refresh side ∷ post)) side).display.lateral ≡ 0
-  pub other_law : (display_after (pre ++ (refresh side ∷ post)) (other_side side)).display.lateral ≡ 1
+  pub law : (display_after (pre ++ (Call.Refresh side ∷ post)) side).display.lateral ≡ 0
+  pub other_law : (display_after (pre ++ (Call.Refresh side ∷ post)) (other_side side)).display.lateral ≡ 1
 
 -- it applies to a list in which independent operation was on
 pub record SpeaksAgain (side : ℕ) : Type 0 where
@@ -80,16 +80,16 @@ pub record Silent (side : ℕ) : Type 0 where
   pub ahead : List Call
   pub later : List Call
   pub is_side : side ≤ 1
-  pub found_on : independent_after (ahead ++ (send (other_side side) ∷ later)) ≡ true
-  pub over : independent_after (ahead ++ (send (other_side side) ∷ later) ++ (refresh side ∷ [])) ≡ false
-  pub passive : pilot_flying (ahead ++ (send (other_side side) ∷ later)) ≡ side → ⊥
+  pub found_on : independent_after (ahead ++ (Call.Send (other_side side) ∷ later)) ≡ true
+  pub over : independent_after (ahead ++ (Call.Send (other_side side) ∷ later) ++ (Call.Refresh side ∷ [])) ≡ false
+  pub passive : pilot_flying (ahead ++ (Call.Send (other_side side) ∷ later)) ≡ side → ⊥
   pub last_send : None (sends (other_side side)) later
   pub sent_law : (display_after ahead (other_side side)).display.lateral ≡ 4
-  pub law : (display_after (ahead ++ (send (other_side side) ∷ later) ++ (refresh side ∷ [])) side).display.lateral ≡ 0
+  pub law : (display_after (ahead ++ (Call.Send (other_side side) ∷ later) ++ (Call.Refresh side ∷ [])) side).display.lateral ≡ 0
 
 -- the IAS reference that right shows when it refreshes right after a start
 abbrev pub ias_at_start : ℤ → ℤ
-ias_at_start speed = (display_from (started speed).bench (refresh 1 ∷ []) 1).display.references.ias
+ias_at_start speed = (display_from (started speed).bench (Call.Refresh 1 ∷ []) 1).display.references.ias
 
 -- a list split at its last call of a kind: c is that call
 pub record Last (kind : Call → Bool) (c : Call) (cs : List Call) : Type 0 where
@@ -102,10 +102,10 @@ pub record Reached : Type 0 where
   pub lateral : (n : ℕ) → 1 ≤ n → n ≤ 5 → Lateral n
   pub vertical : (n : ℕ) → 1 ≤ n → n ≤ 8 → Vertical n
   -- independent operation is turned on by event 20, and ended by events 17 (VS) and 5 (a transfer) and by a refresh
-  pub turned_on : TurnsOn (event 1048576)
-  pub ended_by_event : Ends (event 131072)
-  pub ended_by_transfer : Ends (event 32)
-  pub ended_by_refresh : Ends (refresh 1)
+  pub turned_on : TurnsOn (Call.Event 1048576)
+  pub ended_by_event : Ends (Call.Event 131072)
+  pub ended_by_transfer : Ends (Call.Event 32)
+  pub ended_by_refresh : Ends (Call.Refresh 1)
   -- the passive side's rule speaks of the right side as at power-on, and of the left side, which is passive only after a transfer
   pub speaks_right : Speaks 1
   pub speaks_left : Speaks 0
@@ -113,8 +113,8 @@ pub record Reached : Type 0 where
   pub speaks_again : SpeaksAgain 1
   pub silent : Silent 1
   -- a list has a last accepted send of a side, or none; and so with refreshes
-  pub last_send : (s : ℕ) (cs : List Call) → Last (sends s) (send s) cs ⊎ None (sends s) cs
-  pub last_refresh : (s : ℕ) (cs : List Call) → Last (refreshes s) (refresh s) cs ⊎ None (refreshes s) cs
+  pub last_send : (s : ℕ) (cs : List Call) → Last (sends s) (Call.Send s) cs ⊎ None (sends s) cs
+  pub last_refresh : (s : ℕ) (cs : List Call) → Last (refreshes s) (Call.Refresh s) cs ⊎ None (refreshes s) cs
   -- the rule shows the start that was made: with nothing sent, right has the speed asked for, or the default one if it was refused
   pub started_at_90 : ias_at_start (pos 90) ≡ pos 90
   pub refused_at_59 : ias_at_start (pos 59) ≡ pos 120

@@ -1,9 +1,8 @@
 -- Document 01, 'Bench sheet', with cases 2 and 10 as document 02 has them, and what case 2 keeps by 2026-05: its twelve cases as one claim, about the whole values, the rotations and the rules. A case
 -- that is a list of calls begins at power-on. Here are definitions and the statement only; the proof is in proofs/Sheet.antt.
-use Rattle.std.specs.Prelude.{◌≡◌, false, List, [], ◌∷◌, ◌++◌, map, ℕ, ℤ, pos, negsuc, Float}
+use Rattle.std.specs.Prelude.{◌≡◌, false, List, [], ◌∷◌, ◌++◌, map, ℕ, ℤ, pos, negsuc, Float, Ok}
 use Rattle.std.specs.Float.{binary64}
 use Rattle.std.specs.Float.Ieee.{of_bits}
-use Rattle.rounding.specs.declared.Whole.{Whole}
 use Rattle.rounding.specs.Whole.{whole_of}
 use Rattle.rotation.specs.Rotation.{rotation_of}
 use Rattle.bench.specs.declared.References.{References}
@@ -11,7 +10,8 @@ use Rattle.bench.specs.declared.Reading.{Reading}
 use Rattle.bench.specs.Holds.{power_on}
 use Rattle.bench.specs.Readings.{whole_reading}
 use Rattle.calls.specs.declared.answers.Display.{Display}
-use Rattle.calls.specs.Calls.{Call, event, turn, reading, send, refresh, plain, told}
+use Rattle.calls.specs.declared.call.Call.{Call}
+use Rattle.calls.specs.Calls.{plain, told}
 use Rattle.claim.specs.Lists.{after, replies}
 use Rattle.claim.specs.Claim.{display_after}
 
@@ -45,87 +45,87 @@ heading_left cs = (references_of cs on_left).heading
 
 -- 2: headings 359.25 and 359.5
 abbrev pub two : List Call
-two = reading (Reading.Heading (bits 0x4076_7400_0000_0000)) ∷ reading (Reading.Heading (bits 0x4076_7800_0000_0000)) ∷ []
+two = Call.Reading (Reading.Heading (bits 0x4076_7400_0000_0000)) ∷ Call.Reading (Reading.Heading (bits 0x4076_7800_0000_0000)) ∷ []
 
 -- 3: altitudes 56,000.5 and 56,001
 abbrev pub three : List Call
-three = reading (Reading.Altitude (bits 0x40eb_5810_0000_0000)) ∷ reading (Reading.Altitude (bits 0x40eb_5820_0000_0000)) ∷ []
+three = Call.Reading (Reading.Altitude (bits 0x40eb_5810_0000_0000)) ∷ Call.Reading (Reading.Altitude (bits 0x40eb_5820_0000_0000)) ∷ []
 
 -- 4: the heading knob from 250 to 3 and back to 250; from 0 to 128 and back to 0
 abbrev pub four : List (List Call)
-four = (turn 3 250 ∷ []) ∷ (turn 3 250 ∷ turn 3 3 ∷ []) ∷ (turn 3 250 ∷ turn 3 3 ∷ turn 3 250 ∷ []) ∷ []
+four = (Call.Turn 3 250 ∷ []) ∷ (Call.Turn 3 250 ∷ Call.Turn 3 3 ∷ []) ∷ (Call.Turn 3 250 ∷ Call.Turn 3 3 ∷ Call.Turn 3 250 ∷ []) ∷ []
 
 abbrev pub four_half : List (List Call)
-four_half = (turn 3 128 ∷ []) ∷ (turn 3 128 ∷ turn 3 0 ∷ []) ∷ []
+four_half = (Call.Turn 3 128 ∷ []) ∷ (Call.Turn 3 128 ∷ Call.Turn 3 0 ∷ []) ∷ []
 
 -- 5: the heading knob from 0 to 251, which leaves heading 355
 abbrev pub heading355 : List Call
-heading355 = turn 3 251 ∷ []
+heading355 = Call.Turn 3 251 ∷ []
 
 -- 5: vertical speed 48.0 is read, then VS engages
 abbrev pub speed48 : List Call
-speed48 = reading (Reading.VerticalSpeed (bits 0x4048_0000_0000_0000)) ∷ event 131072 ∷ []
+speed48 = Call.Reading (Reading.VerticalSpeed (bits 0x4048_0000_0000_0000)) ∷ Call.Event 131072 ∷ []
 
 abbrev pub six : List Call
-six = event 16384 ∷ []
+six = Call.Event 16384 ∷ []
 
 abbrev pub seven : List Call
-seven = event 16400 ∷ []
+seven = Call.Event 16400 ∷ []
 
 -- 8: the first, the second, the third word, and then the fourth
 abbrev pub eight₁ : List Call
-eight₁ = event 65536 ∷ []
+eight₁ = Call.Event 65536 ∷ []
 
 abbrev pub eight₂ : List Call
-eight₂ = eight₁ ++ (event 1024 ∷ [])
+eight₂ = eight₁ ++ (Call.Event 1024 ∷ [])
 
 abbrev pub eight₃ : List Call
-eight₃ = eight₂ ++ (event 2048 ∷ [])
+eight₃ = eight₂ ++ (Call.Event 2048 ∷ [])
 
 abbrev pub eight₄ : List Call
-eight₄ = eight₃ ++ (event 131072 ∷ [])
+eight₄ = eight₃ ++ (Call.Event 131072 ∷ [])
 
 -- 9: overspeed begins on eight₂, and then VAPPR's signal comes
 abbrev pub nine₁ : List Call
-nine₁ = eight₂ ++ (event 4 ∷ [])
+nine₁ = eight₂ ++ (Call.Event 4 ∷ [])
 
 abbrev pub nine₂ : List Call
-nine₂ = nine₁ ++ (event 2048 ∷ [])
+nine₂ = nine₁ ++ (Call.Event 2048 ∷ [])
 
 abbrev pub ten : List Call
-ten = event 0 ∷ event 2097152 ∷ []
+ten = Call.Event 0 ∷ Call.Event 2097152 ∷ []
 
 -- 11: six, and then a send and a refresh
 abbrev pub eleven : List Call
-eleven = six ++ (send on_left ∷ refresh on_right ∷ [])
+eleven = six ++ (Call.Send on_left ∷ Call.Refresh on_right ∷ [])
 
 -- 12: eleven and a transfer, and then a refresh too
 abbrev pub twelve₁ : List Call
-twelve₁ = eleven ++ (event 32 ∷ [])
+twelve₁ = eleven ++ (Call.Event 32 ∷ [])
 
 abbrev pub twelve₂ : List Call
-twelve₂ = twelve₁ ++ (refresh on_left ∷ [])
+twelve₂ = twelve₁ ++ (Call.Refresh on_left ∷ [])
 
 -- ---- the claim
 
 pub record Sheet : Type 0 where
   -- three ties go to the even integer: 12.5 to 12, 13.5 to 14 and -0.5 to 0
-  pub case1 : (whole_of (bits 0x4029_0000_0000_0000) ≡ Whole.Value (pos 12)) × (whole_of (bits 0x402b_0000_0000_0000) ≡ Whole.Value (pos 14))
-      × (whole_of (bits 0xbfe0_0000_0000_0000) ≡ Whole.Value (pos 0))
+  pub case1 : (whole_of (bits 0x4029_0000_0000_0000) ≡ Ok (pos 12)) × (whole_of (bits 0x402b_0000_0000_0000) ≡ Ok (pos 14))
+      × (whole_of (bits 0xbfe0_0000_0000_0000) ≡ Ok (pos 0))
   -- headings of 359.25 and 359.5 are both accepted, as 359 and, by document 02, 2026-01, as 0; the float that stays is 359.5, and beside it 0
-  pub case2 : (replies power_on two ≡ plain 0 ∷ plain 0 ∷ []) × (whole_reading (Reading.Heading (bits 0x4076_7400_0000_0000)) ≡ Whole.Value (pos 359))
-      × (whole_reading (Reading.Heading (bits 0x4076_7800_0000_0000)) ≡ Whole.Value (pos 0)) × ((after power_on two).readings.heading ≡ bits 0x4076_7800_0000_0000)
+  pub case2 : (replies power_on two ≡ plain 0 ∷ plain 0 ∷ []) × (whole_reading (Reading.Heading (bits 0x4076_7400_0000_0000)) ≡ Ok (pos 359))
+      × (whole_reading (Reading.Heading (bits 0x4076_7800_0000_0000)) ≡ Ok (pos 0)) × ((after power_on two).readings.heading ≡ bits 0x4076_7800_0000_0000)
       × ((after power_on two).wholes.heading ≡ pos 0)
   -- an altitude of 56,000.5 is accepted, since it rounds to 56,000, the end of the range; 56,001 is refused with 6
-  pub case3 : (replies power_on three ≡ plain 0 ∷ plain 6 ∷ []) × (whole_of (bits 0x40eb_5810_0000_0000) ≡ Whole.Value (pos 56000))
+  pub case3 : (replies power_on three ≡ plain 0 ∷ plain 6 ∷ []) × (whole_of (bits 0x40eb_5810_0000_0000) ≡ Ok (pos 56000))
   -- the rotation from 250 to 3 is 9, and -9 the other way; half a turn, between 0 and 128, is -128 either way
   pub case4 : (rotation_of 250 3 ≡ pos 9) × (rotation_of 3 250 ≡ negsuc 8) × (rotation_of 0 128 ≡ negsuc 127) × (rotation_of 128 0 ≡ negsuc 127)
       -- the same by turns of the heading knob: 354 and 9 is 3, 3 and -9 is 354; 0 and -128 is 232, 232 and -128 is 104
       × (map heading_left four ≡ pos 354 ∷ pos 3 ∷ pos 354 ∷ []) × (map heading_left four_half ≡ pos 232 ∷ pos 104 ∷ [])
   -- a rotation of 9 takes heading 355 round to 4, and in VS a vertical speed of 48 to 50, the end of its range
-  pub case5 : (heading_left heading355 ≡ pos 355) × (rotation_of 251 4 ≡ pos 9) × (heading_left (heading355 ++ (turn 3 4 ∷ [])) ≡ pos 4)
+  pub case5 : (heading_left heading355 ≡ pos 355) × (rotation_of 251 4 ≡ pos 9) × (heading_left (heading355 ++ (Call.Turn 3 4 ∷ [])) ≡ pos 4)
       × (laws speed48 on_left ≡ (1, 2)) × ((references_of speed48 on_left).vertical_speed ≡ pos 48) × (rotation_of 0 9 ≡ pos 9)
-      × ((references_of (speed48 ++ (turn 0 9 ∷ [])) on_left).vertical_speed ≡ pos 50)
+      × ((references_of (speed48 ++ (Call.Turn 0 9 ∷ [])) on_left).vertical_speed ≡ pos 50)
   -- word 16,384 presses HDG, event 14: HDG and PITCH (2 and 1) with ALTSEL armed (4), and the lamps HDG and PF left (129)
   pub case6 : (replies power_on six ≡ told 0 14 ∷ []) × (laws six on_left ≡ (2, 1)) × ((shown_by six on_left).armed ≡ 4) × ((shown_by six on_left).lamps ≡ 129)
   -- word 16,400 has the bits 4 and 14, and go-around, 4, is done: LGA and VGA (5 and 8) with ALTSEL armed (4)

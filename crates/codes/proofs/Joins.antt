@@ -1,20 +1,17 @@
 -- The code that the program computes is the place in the list, and a set is what its laws and its armed sum show: each computed at once, over all sets.
 -- Assumes nothing.
-use mathlib.Core.Path.{◌≡◌, refl, sym, ap, subst}
-use mathlib.Core.List.{List, [], ◌∷◌, map}
-use Prim.Native.Nat.{ℕ, zero, suc, ◌/◌, ◌%◌, ◌<◌}
-use native.Mathlib.Nat.{le_of_suc-le-suc, not-suc-le-zero}
+use mathlib.Core.Path.{◌≡◌, refl, ap}
+use Prim.Native.Nat.{ℕ}
 use lib.Dec.{T}
-use lib.ListN.{length, get_or}
+use lib.ListN.{length}
 use Rattle.modes.specs.declared.Modes.{Modes}
 use Rattle.modes.specs.declared.ModeSet.{ModeSet}
-use Rattle.modes.specs.Finite.{pick}
 use Rattle.modes.specs.Sets.{engaged, armed, cleared, once, coherent}
-use Rattle.modes.specs.Numbers.{armed_sum}
+use Rattle.modes.specs.Numbers.{lateral_law, vertical_law, armed_sum}
 use Rattle.modes.proofs.Every.{at_sets, same_modes_lem, agree_number}
-use Rattle.codes.specs.declared.Coded.{Coded}
-use Rattle.codes.specs.Codes.{coded_sets, same_set, code_of, set_of}
-use Rattle.codes.specs.Private.{arithmetic, digits_of, set_shown}
+use Rattle.codes.specs.Codes.{coded_sets, same_set, code_of}
+use Rattle.codes.specs.Poster.{lateral_in, armed_sum_in, vertical_in}
+use Rattle.codes.specs.Private.{arithmetic, set_shown}
 
 pub count : length coded_sets ≡ 108
 unfolding coded_sets coherent once cleared armed engaged
@@ -38,21 +35,11 @@ same_set_lem ModeSet.Off (ModeSet.On n) h = absurd h
 same_set_lem (ModeSet.On m) ModeSet.Off h = absurd h
 same_set_lem (ModeSet.On m) (ModeSet.On n) h = ap ModeSet.On (same_modes_lem m n h)
 
--- the set that three digits show
-abbrev pub digits_set : ℕ → ModeSet
-digits_set x = set_shown (x / 256) (x / 16 % 16) (x % 16)
+-- the set that a number shows
+abbrev pub set_in : ℕ → ModeSet
+set_in n = set_shown (lateral_in n) (vertical_in n) (armed_sum_in n)
 
 -- every set is the one that its laws and its armed sum show
-shown_back : (s : ModeSet) → digits_set (digits_of s) ≡ s
+pub by_laws : (s : ModeSet) → set_shown (lateral_law s) (vertical_law s) (armed_sum s) ≡ s
 unfolding armed_sum armed engaged
-shown_back s = same_set_lem (digits_set (digits_of s)) s (at_sets (λ s. same_set (digits_set (digits_of s)) s) tt s)
-
-pick_shown : (ss : List ModeSet) (n : ℕ) → n < length ss → Coded.Set (digits_set (get_or (map digits_of ss) n 0)) ≡ pick Coded.NoSet (map Coded.Set ss) n
-pick_shown [] n h = absurd (not-suc-le-zero h)
-pick_shown (s ∷ ss) zero h = ap Coded.Set (shown_back s)
-pick_shown (s ∷ ss) (suc n) h = pick_shown ss n (le_of_suc-le-suc h)
-
--- so the digits of a code show its set
-pub shown_at : (n : ℕ) → n < 108 → Coded.Set (digits_set (get_or (map digits_of coded_sets) n 0)) ≡ set_of n
-unfolding set_of
-shown_at n h = pick_shown coded_sets n (subst (λ (k : ℕ). n < k) (sym count) h)
+by_laws s = same_set_lem _ s (at_sets (λ s. same_set (set_shown (lateral_law s) (vertical_law s) (armed_sum s)) s) tt s)

@@ -1,37 +1,33 @@
 -- The laws of set codes, computed over all sets and over all codes. Assumes nothing.
 use mathlib.Core.Path.{◌≡◌, refl, sym, ap, ◌∙◌, subst}
 use mathlib.Core.Bool.{Bool, true, false, ◌&&◌, cond}
-use mathlib.Core.List.{List, [], ◌∷◌, map}
+use mathlib.Core.List.{List, [], ◌∷◌}
 use Prim.Native.Nat.{ℕ, zero, suc, ◌+◌, ◌≤◌, ◌<◌}
 use native.Mathlib.Nat.{le_of_suc-le-suc, not-suc-le-zero, zero-add}
 use native.Mathlib.Omega.{arith}
 use borrow.Author.Tests.{ltb-true, ltb-false}
 use lib.Dec.{T, eqb, ltb, eqb→eq, ltb→lt}
-use lib.ListN.{length}
+use lib.ListN.{length, get_or}
+use Rattle.std.specs.Prelude.{Some, None}
+use Rattle.std.specs.List.{slice_get}
+use Rattle.std.proofs.lemmas.Option.{slice_get_past, slice_get-get_or}
 use Rattle.modes.specs.declared.ModeSet.{ModeSet}
-use Rattle.modes.specs.Finite.{pick}
 use Rattle.modes.specs.Sets.{engaged, armed, cleared, once, coherent, coherent_set}
-use Rattle.modes.proofs.Finite.{both_left, both_right, pick_past}
+use Rattle.modes.proofs.Finite.{both_left, both_right}
 use Rattle.modes.proofs.Every.{at_sets}
-use Rattle.codes.specs.declared.Coded.{Coded}
 use Rattle.codes.specs.Codes.{coded_sets, same_set, place_in, code_of, set_of}
 use Rattle.codes.specs.Laws.{OneSet, rank, CodeLaws}
 use Rattle.codes.proofs.Joins.{off_code, count, same_set_lem}
 
 -- the set at the place of a set in a list is that set
-place_back : (xs : List ModeSet) (s : ModeSet) → place_in xs s < length xs → pick ModeSet.Off xs (place_in xs s) ≡ s
+place_back : (xs : List ModeSet) (s : ModeSet) → place_in xs s < length xs → get_or xs (place_in xs s) ModeSet.Off ≡ s
 place_back [] s h = absurd (not-suc-le-zero h)
 place_back (x ∷ xs) s h = go (same_set s x) refl h (place_back xs s)
   where
-    go : (t : Bool) → same_set s x ≡ t → cond t 0 (suc (place_in xs s)) < suc (length xs) → (place_in xs s < length xs → pick ModeSet.Off xs (place_in xs s) ≡ s) →
-        pick ModeSet.Off (x ∷ xs) (cond t 0 (suc (place_in xs s))) ≡ s
+    go : (t : Bool) → same_set s x ≡ t → cond t 0 (suc (place_in xs s)) < suc (length xs) → (place_in xs s < length xs → get_or xs (place_in xs s) ModeSet.Off ≡ s) →
+        get_or (x ∷ xs) (cond t 0 (suc (place_in xs s))) ModeSet.Off ≡ s
     go true e h more = sym (same_set_lem s x (subst T (sym e) tt))
     go false e h more = more (le_of_suc-le-suc h)
-
-pick_set : (xs : List ModeSet) (n : ℕ) → n < length xs → pick Coded.NoSet (map Coded.Set xs) n ≡ Coded.Set (pick ModeSet.Off xs n)
-pick_set [] n h = absurd (not-suc-le-zero h)
-pick_set (x ∷ xs) zero h = refl
-pick_set (x ∷ xs) (suc n) h = pick_set xs n (le_of_suc-le-suc h)
 
 -- in a list whose ranks rise from each to the next, they rise from any to any later one
 abbrev rises : List ModeSet → Bool
@@ -43,7 +39,7 @@ tail_rises : (x : ModeSet) (xs : List ModeSet) → T (rises (x ∷ xs)) → T (r
 tail_rises x [] t = tt
 tail_rises x (y ∷ ys) t = both_right (ltb (rank x) (rank y)) (rises (y ∷ ys)) t
 
-first_rises : (x : ModeSet) (xs : List ModeSet) (n : ℕ) → T (rises (x ∷ xs)) → n < length xs → rank x < rank (pick ModeSet.Off xs n)
+first_rises : (x : ModeSet) (xs : List ModeSet) (n : ℕ) → T (rises (x ∷ xs)) → n < length xs → rank x < rank (get_or xs n ModeSet.Off)
 first_rises x [] n t h = absurd (not-suc-le-zero h)
 first_rises x (y ∷ ys) zero t h = ltb→lt (rank x) (rank y) (both_left (ltb (rank x) (rank y)) (rises (y ∷ ys)) t)
 first_rises x (y ∷ ys) (suc n) t h =
@@ -51,17 +47,13 @@ first_rises x (y ∷ ys) (suc n) t h =
     let more = first_rises y ys n (tail_rises x (y ∷ ys) t) (le_of_suc-le-suc h) in
     omega arith
 
-later_rises : (xs : List ModeSet) (m n : ℕ) → T (rises xs) → m < n → n < length xs → rank (pick ModeSet.Off xs m) < rank (pick ModeSet.Off xs n)
+later_rises : (xs : List ModeSet) (m n : ℕ) → T (rises xs) → m < n → n < length xs → rank (get_or xs m ModeSet.Off) < rank (get_or xs n ModeSet.Off)
 later_rises [] m n t l h = absurd (not-suc-le-zero h)
 later_rises (x ∷ xs) m zero t l h = absurd (not-suc-le-zero l)
 later_rises (x ∷ xs) zero (suc n) t l h = first_rises x xs n t (le_of_suc-le-suc h)
 later_rises (x ∷ xs) (suc m) (suc n) t l h = later_rises xs m n (tail_rises x xs t) (le_of_suc-le-suc l) (le_of_suc-le-suc h)
 
 -- ---- what is computed
-
-all_mapped : length (map Coded.Set coded_sets) ≡ 108
-unfolding coded_sets coherent once cleared armed engaged
-all_mapped = refl
 
 abbrev coded : ModeSet → Bool
 coded s = cond (coherent_set s) (ltb (code_of s) 108) (eqb (code_of s) 108)
@@ -107,13 +99,13 @@ code_le s = go (coherent_set s) (all_coded s)
 in_list : (s : ModeSet) → T (coherent_set s) → code_of s < length coded_sets
 in_list s t = subst (λ (k : ℕ). code_of s < k) (sym count) (code_below s t)
 
-at_code : (s : ModeSet) → T (coherent_set s) → pick ModeSet.Off coded_sets (code_of s) ≡ s
+at_code : (s : ModeSet) → T (coherent_set s) → get_or coded_sets (code_of s) ModeSet.Off ≡ s
 unfolding code_of
 at_code s t = place_back coded_sets s (in_list s t)
 
-pub set_back : (s : ModeSet) → T (coherent_set s) → set_of (code_of s) ≡ Coded.Set s
+pub set_back : (s : ModeSet) → T (coherent_set s) → set_of (code_of s) ≡ Some s
 unfolding set_of
-set_back s t = pick_set coded_sets (code_of s) (in_list s t) ∙ ap Coded.Set (at_code s t)
+set_back s t = slice_get-get_or coded_sets (code_of s) ModeSet.Off (in_list s t) ∙ ap Some (at_code s t)
 
 ordered : (s t : ModeSet) → T (coherent_set s) → T (coherent_set t) → code_of s < code_of t → rank s < rank t
 ordered s t c d l =
@@ -122,13 +114,13 @@ ordered s t c d l =
     let there = ap rank (at_code t d) in
     omega arith
 
-pub no_set : (n : ℕ) → 108 ≤ n → set_of n ≡ Coded.NoSet
+pub no_set : (n : ℕ) → 108 ≤ n → set_of n ≡ None
 unfolding set_of
-no_set n h = pick_past Coded.NoSet (map Coded.Set coded_sets) n (subst (λ (k : ℕ). k ≤ n) (sym all_mapped) h)
+no_set n h = slice_get_past coded_sets n (subst (λ (k : ℕ). k ≤ n) (sym count) h)
 
 -- the set at a place of a list whose sets have the codes from k on
 one_set : (k n : ℕ) (ss : List ModeSet) → T (placed k ss) → n < length ss →
-    (s : ModeSet) × (pick Coded.NoSet (map Coded.Set ss) n ≡ Coded.Set s) × T (coherent_set s) × (code_of s ≡ k + n)
+    (s : ModeSet) × (slice_get ss n ≡ Some s) × T (coherent_set s) × (code_of s ≡ k + n)
 one_set k n [] t h = absurd (not-suc-le-zero h)
 one_set k zero (s ∷ ss) t h =
     let rest = both_right (coherent_set s) (eqb (code_of s) k && placed (suc k) ss) t in
@@ -149,28 +141,13 @@ set_at n h =
 pub code_laws : CodeLaws
 code_laws = record { count = count; off = off_code; code = code_below; set_back = set_back; set = set_at; ordered = ordered; no_code = no_code; no_set = no_set }
 
--- the set of a number, and of no other
-pub set_only : (s t : ModeSet) → Coded.Set s ≡ Coded.Set t → s ≡ t
-set_only s t e = ap inside e
-  where
-    inside : Coded → ModeSet
-    inside (Coded.Set s) = s
-    inside Coded.NoSet = ModeSet.Off
-
-no_set_is_set : (s : ModeSet) → Coded.NoSet ≡ Coded.Set s → ⊥
-no_set_is_set s e = subst is_none e tt
-  where
-    is_none : Coded → Type 0
-    is_none (Coded.Set s) = ⊥
-    is_none Coded.NoSet = Unit
-
 -- where a number has a set, the set is coherent and has that code
-pub decoded : (n : ℕ) (s : ModeSet) → set_of n ≡ Coded.Set s → T (coherent_set s) × (code_of s ≡ n)
+pub decoded : (n : ℕ) (s : ModeSet) → set_of n ≡ Some s → T (coherent_set s) × (code_of s ≡ n)
 decoded n s e = go (ltb n 108) refl
   where
     go : (t : Bool) → ltb n 108 ≡ t → T (coherent_set s) × (code_of s ≡ n)
     go true h =
         let found = set_at n (ltb-true n 108 h) in
-        let same = set_only found.set s (sym found.has ∙ e) in
+        let same : found.set ≡ s = cc (found.has, e) in
         (subst (λ (s : ModeSet). T (coherent_set s)) same found.coherent, subst (λ (s : ModeSet). code_of s ≡ n) same found.back)
-    go false h = absurd (no_set_is_set s (sym (no_set n (ltb-false n 108 h)) ∙ e))
+    go false h = let none = no_set n (ltb-false n 108 h) in absurd (cc)

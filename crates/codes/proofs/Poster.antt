@@ -10,17 +10,13 @@ use Rattle.modes.specs.Numbers.{lateral_law, vertical_law, armed_sum}
 use Rattle.modes.specs.Every.{every_set}
 use Rattle.modes.proofs.Finite.{both_left, both_right}
 use Rattle.modes.proofs.Every.{at_sets, agree_sets}
-use Rattle.codes.specs.declared.Coded.{Coded}
-use Rattle.codes.specs.Codes.{coded_sets, same_set, code_of, set_of}
+use Rattle.std.specs.Prelude.{Some}
+use Rattle.codes.specs.Codes.{coded_sets, code_of, set_of}
 use Rattle.codes.specs.Poster.{set_number, set_numbers, number_at, lateral_in, armed_sum_in, vertical_in, has_part, armed_in, Shows, OnePlace, PlaceOfSet, PosterLaws}
 use Rattle.codes.specs.Private.{set_shown}
-use Rattle.codes.proofs.Joins.{same_set_lem}
+use Rattle.codes.proofs.Joins.{set_in, by_laws}
 use Rattle.codes.proofs.Places.{every_from, at_place}
-use Rattle.codes.proofs.Laws.{code_below, set_back, set_only}
-
--- the set that a number shows
-abbrev pub set_in : ℕ → ModeSet
-set_in n = set_shown (lateral_in n) (vertical_in n) (armed_sum_in n)
+use Rattle.codes.proofs.Laws.{code_below, set_back}
 
 -- ---- what is computed
 
@@ -35,11 +31,6 @@ listed code n = coherent_set (set_in n) && (eqb (code_of (set_in n)) code && eqb
 all_listed : T (every_from listed 0 set_numbers)
 unfolding set_numbers code_of coded_sets armed_sum coherent once cleared armed engaged
 all_listed = tt
-
--- every set is the one that its laws and its armed sum show
-by_laws : (s : ModeSet) → set_shown (lateral_law s) (vertical_law s) (armed_sum s) ≡ s
-unfolding armed_sum armed engaged
-by_laws s = same_set_lem _ s (at_sets (λ s. same_set (set_shown (lateral_law s) (vertical_law s) (armed_sum s)) s) tt s)
 
 -- the number of a set shows it
 agree_laws : (f g : ModeSet → ℕ) → T (every_set (λ s. eqb (f s) (g s))) → (s : ModeSet) → f s ≡ g s
@@ -74,7 +65,7 @@ told_at code h = told code (number_at code) (at_place listed 0 set_numbers all_l
 coded_at : (code : ℕ) → code < 108 → code_of (set_in (number_at code)) ≡ code
 coded_at code h = (told_at code h).1
 
-pub shown_at : (code : ℕ) → code < 108 → Coded.Set (set_in (number_at code)) ≡ set_of code
+pub shown_at : (code : ℕ) → code < 108 → Some (set_in (number_at code)) ≡ set_of code
 shown_at code h = sym (set_back (set_in (number_at code)) (told_at code h).0) ∙ ap set_of (coded_at code h)
 
 -- ---- the laws
@@ -102,7 +93,7 @@ each : (s : ModeSet) → T (coherent_set s) → OnePlace s
 each s t =
     let code = code_of s in
     let h = code_below s t in
-    let same = set_only (set_in (number_at code)) s (shown_at code h ∙ set_back s t) in
+    let same : set_in (number_at code) ≡ s = cc (shown_at code h, set_back s t) in
     record { inside = h; shown = subst (λ (s : ModeSet). Shows (number_at code) s) same (shows_at code h); only = only s }
 
 no_two : (code other : ℕ) → code < 108 → other < 108 → number_at code ≡ number_at other → code ≡ other

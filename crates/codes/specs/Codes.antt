@@ -1,20 +1,13 @@
 -- Set codes. Document 02, 2026-02: the coherent sets in a row, and a code is a set's place in it.
-use Rattle.std.specs.Prelude.{Bool, true, false, cond, List, [], ◌∷◌, ◌++◌, map, ℕ, suc}
+use Rattle.std.specs.Prelude.{Bool, true, false, cond, List, [], ◌∷◌, ℕ, suc, Option}
+use Rattle.std.specs.List.{filter, flat_map, slice_get}
 use Rattle.modes.specs.declared.ModeSet.{ModeSet}
-use Rattle.modes.specs.Finite.{pick}
 use Rattle.modes.specs.Sets.{coherent_set}
 use Rattle.modes.specs.Every.{both_flags, every_lateral, every_armed, every_vertical, of_parts, same_modes}
-use Rattle.codes.specs.declared.Coded.{Coded}
 
 -- what each member of a list gives, in a row
 abbrev pub for_each : {A B : Type 0} → List A → (A → List B) → List B
-for_each [] f = []
-for_each (x ∷ xs) f = f x ++ for_each xs f
-
--- the members of a list that pass a test
-abbrev pub keeping : {A : Type 0} → (A → Bool) → List A → List A
-keeping p [] = []
-keeping p (x ∷ xs) = cond (p x) (x ∷ keeping p xs) (keeping p xs)
+for_each xs f = flat_map f xs
 
 -- all On sets, coherent or not. The lateral law weighs most, after it the armed lateral mode (none, NAV, LAPPR), then the vertical law, and last whether VAPPR is armed,
 -- which comes second
@@ -24,7 +17,7 @@ on_sets =
 
 -- Off, and the coherent On sets in that order
 unfoldable pub coded_sets : List ModeSet
-coded_sets = keeping coherent_set (ModeSet.Off ∷ on_sets)
+coded_sets = filter coherent_set (ModeSet.Off ∷ on_sets)
 
 abbrev pub same_set : ModeSet → ModeSet → Bool
 same_set ModeSet.Off ModeSet.Off = true
@@ -42,5 +35,5 @@ unfoldable pub code_of : ModeSet → ℕ
 code_of s = place_in coded_sets s
 
 -- the set of a code, and none past the list's end
-unfoldable pub set_of : ℕ → Coded
-set_of n = pick Coded.NoSet (map Coded.Set coded_sets) n
+unfoldable pub set_of : ℕ → Option ModeSet
+set_of n = slice_get coded_sets n

@@ -1,9 +1,8 @@
 -- The poster of all sets. Document 02, 2026-07: each coherent set by its laws and its armed sum, in the order of the codes. `poster_laws` of `proofs/Poster.antt` proves
 -- the laws.
-use Rattle.std.specs.Prelude.{◌≡◌, Bool, false, List, map, ℕ, ◌+◌, ◌*◌, ◌/◌, ◌%◌, ◌<◌, T, eqb, length}
+use Rattle.std.specs.Prelude.{◌≡◌, Bool, false, List, map, ℕ, ◌+◌, ◌*◌, ◌/◌, ◌%◌, ◌<◌, T, eqb, length, slice_index}
 use Rattle.modes.specs.declared.ModeSet.{ModeSet}
 use Rattle.modes.specs.Sets.{Mode, NAV, LAPPR, ALTSEL, VAPPR, armed, coherent_set}
-use Rattle.modes.specs.Finite.{pick}
 use Rattle.modes.specs.Numbers.{lateral_law, vertical_law, armed_sum}
 use Rattle.codes.specs.Codes.{coded_sets, code_of}
 
@@ -17,7 +16,7 @@ set_numbers = map set_number coded_sets
 
 -- the number of a code
 abbrev pub number_at : ℕ → ℕ
-number_at code = pick 0 set_numbers code
+number_at code = slice_index set_numbers code
 
 -- ---- what a number says: the three that the poster prints behind the code, and which modes are armed
 

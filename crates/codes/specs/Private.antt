@@ -1,12 +1,12 @@
 -- What the private functions of this crate compute, by their own cases. This is no part of the promise: the contracts of the public functions cite Codes and Numbers,
 -- and computing over all sets and over all codes shows that these agree with them.
-use Rattle.std.specs.Prelude.{Bool, cond, ℕ, ◌+◌, ◌*◌, ◌%◌, eqb, leb}
+use Rattle.std.specs.Prelude.{Bool, cond, ℕ, ◌+◌, ◌%◌, eqb, leb}
 use Rattle.modes.specs.declared.Lateral.{Lateral}
 use Rattle.modes.specs.declared.ArmedLateral.{ArmedLateral}
 use Rattle.modes.specs.declared.Vertical.{Vertical}
 use Rattle.modes.specs.declared.Modes.{Modes}
 use Rattle.modes.specs.declared.ModeSet.{ModeSet}
-use Rattle.modes.specs.Numbers.{lateral_law, vertical_law, armed_sum, worth}
+use Rattle.modes.specs.Numbers.{worth}
 use Rattle.modes.specs.Sets.{coherent}
 use Rattle.codes.specs.Numbers.{modes_by}
 
@@ -56,10 +56,6 @@ abbrev pub arithmetic : Modes → ℕ
 arithmetic m = cond (coherent m) (first_code m.lateral m.armed + place_beside m.lateral m.vertical m.vappr_armed) 108
 
 -- ---- from a code to its set, by two laws and an armed sum
-
--- lateral law, vertical law and armed sum, as three digits of base 16
-abbrev pub digits_of : ModeSet → ℕ
-digits_of s = lateral_law s * 256 + vertical_law s * 16 + armed_sum s
 
 abbrev pub set_shown : ℕ → ℕ → ℕ → ModeSet
 set_shown lateral vertical armed = cond (eqb lateral 0) ModeSet.Off (ModeSet.On (modes_by lateral (armed % 4) vertical (leb 8 armed)))

@@ -1,23 +1,17 @@
 // Set codes: one number, from 0 to 107, for each coherent set; and all of these sets in a list.
 #![tactic(auto)]
 
-ghost use Rattle.std.specs.Prelude.{◌≡◌, map, ◌<◌, get_or};
+ghost use Rattle.std.specs.Prelude.{◌≡◌};
 ghost use Rattle.codes.specs.Codes.{coded_sets, code_of, set_of};
 ghost use Rattle.codes.specs.Numbers.{lateral_by, armed_by, vertical_by, modes_by};
 ghost use Rattle.codes.specs.Poster.{set_numbers};
-ghost use Rattle.codes.specs.Private.{by_armed, first_code, single_place, double_place, place_beside, digits_of, set_shown};
+ghost use Rattle.codes.specs.Private.{by_armed, first_code, single_place, double_place, place_beside, set_shown};
 
 use modes::{ArmedLateral, Lateral, ModeSet, Modes, Vertical};
 
 // The answer for a set that is not coherent: no set has this code.
+// Stays: set_code has a number for every set and cannot fail, since a frame has a code byte for any set.
 pub const NO_CODE: u32 = 108;
-
-// The set of a code, if there is one.
-#[derive(Clone, Copy)]
-pub enum Coded {
-    Set(ModeSet),
-    NoSet,
-}
 
 // The sets by their codes: lateral law, vertical law and armed sum, a hexadecimal digit each.
 const SHOWN: [u16; 108] = [
@@ -57,6 +51,7 @@ fn first_code(l: Lateral, a: ArmedLateral) -> u32
 }
 
 // A vertical mode's place where each but VAPPR comes once.
+// Stays: this table and the next are no twins. One with a step of 1 or 2 has VAPPR and VGA apart, and is no shorter.
 fn single_place(v: Vertical) -> u32
     ensures { result ≡ single_place v }
 {
@@ -93,11 +88,8 @@ fn place_beside(l: Lateral, v: Vertical, vappr_armed: bool) -> u32
     ensures { result ≡ place_beside l v vappr_armed }
 {
     match l {
-        Lateral::Roll => single_place(v),
-        Lateral::Hdg => single_place(v),
-        Lateral::Nav => single_place(v),
-        Lateral::Lappr => double_place(v) + modes::numbers::worth(vappr_armed, 1),
-        Lateral::Lga => single_place(v),
+        Lateral::Roll | Lateral::Hdg | Lateral::Nav | Lateral::Lga => single_place(v),
+        Lateral::Lappr => double_place(v) + u32::from(vappr_armed),
     }
 }
 
@@ -105,13 +97,10 @@ fn place_beside(l: Lateral, v: Vertical, vappr_armed: bool) -> u32
 fn modes_code(m: Modes) -> u32
     ensures { result ≡ code_of (ModeSet.On m) }
 {
-    let l = m.lateral;
-    let a = m.armed;
-    let v = m.vertical;
     if !modes::sets::is_coherent(m) {
         return NO_CODE;
     }
-    first_code(l, a) + place_beside(l, v, m.vappr_armed)
+    first_code(m.lateral, m.armed) + place_beside(m.lateral, m.vertical, m.vappr_armed)
 }
 
 // The code of a set, from 0 to 107; 108 where the set is not coherent.
@@ -125,6 +114,8 @@ pub fn set_code(s: ModeSet) -> u32
 }
 
 // The lateral mode of a law; LGA where the number is none's.
+// Stays: modes_by has modes for any numbers and cannot fail, here and in the two below. A TryFrom beside them would
+// have no caller.
 fn lateral_by(n: u64) -> Lateral
     ensures { result ≡ lateral_by n }
 {
@@ -186,22 +177,9 @@ fn set_shown(lateral: u64, vertical: u64, armed: u64) -> ModeSet
     ModeSet::On(modes_by(lateral, armed % 4, vertical, 8 <= armed))
 }
 
-fn wide(x: u16) -> u64
-    ensures { result ≡ x }
-{
-    x as u64
-}
-
-// The entry of a code in the table.
-fn shown(code: usize) -> u64
-    requires { code < 108 }
-    ensures { result ≡ get_or (map digits_of coded_sets) code 0 }
-{
-    wide(SHOWN[code])
-}
-
 // All coherent sets in the order of their codes, Off the first, each as lateral law times 256, plus vertical law times 16,
 // plus armed sum.
+// Stays: the one const array that document 01 asks for is handed out as it is, each set a number.
 pub fn set_numbers() -> [u16; 108]
     ensures { result ≡ set_numbers }
 {
@@ -209,12 +187,9 @@ pub fn set_numbers() -> [u16; 108]
 }
 
 // The set of a code, from 0 to 107.
-pub fn set_of(code: u32) -> Coded
+pub fn set_of(code: u32) -> Option<ModeSet>
     ensures { result ≡ set_of code }
 {
-    if 107 < code {
-        return Coded::NoSet;
-    }
-    let digits = shown(code as usize);
-    Coded::Set(set_shown(digits / 256, digits / 16 % 16, digits % 16))
+    let digits = u64::from(*SHOWN.get(code as usize)?);
+    Some(set_shown(digits / 256, digits / 16 % 16, digits % 16))
 }

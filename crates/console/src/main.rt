@@ -4,108 +4,91 @@
 
 mod answers;
 mod messages;
+mod numbers;
 mod output;
 mod panel;
 
 ghost use Rattle.std.specs.Prelude.{◌≡◌, ◌≤◌, length, take};
-ghost use Rattle.sessions.specs.Sessions.{script_ended, store_ended, fed};
+ghost use Rattle.sessions.specs.Sessions.{after_end, fed};
 
 use answers::put_answer;
-use output::{Outlet, flush};
+use output::Outlet;
 use sessions::Session;
 use std::io::{Error, Read, Stdin};
+use std::marker::Model;
 
-// A piece of the script is carried out, and its answers are written.
-fn feed(
-    start: Session,
-    piece: &[u8],
-    line: &mut [u8; 256],
-    area: &mut [u8; 2048],
-    out: &mut Outlet,
-) -> Session
-    ensures answer { result ≡ (fed start line.old area.old piece.now).session }
-    ensures new_line { line.new ≡ (fed start line.old area.old piece.now).room }
-    ensures new_area { area.new ≡ (fed start line.old area.old piece.now).store }
-{
-    let mut s = start;
-    let mut waiting = 0;
-    let mut i = 0;
-    while i < piece.len() {
-        let taken = sessions::take_byte(s, piece[i], line, area);
-        s = taken.session;
-        waiting = put_answer(out, waiting, taken, area);
-        i += 1;
-    }
-    flush(out, waiting);
-    s
+// A session, and where its answers go.
+#[derive(Drop)]
+struct Console {
+    session: Session,
+    out: Outlet,
 }
 
-// The script's end: a last line without a line end is carried out, and its answer is written.
-fn finish(s: Session, line: &[u8; 256], area: &mut [u8; 2048], out: &mut Outlet) -> Session
-    ensures answer { result ≡ (script_ended s line.now area.old).session }
-    ensures new_area { area.new ≡ store_ended s line.now area.old }
-{
-    let taken = sessions::end_script(s, line, area);
-    let waiting = put_answer(out, 0, taken, area);
-    flush(out, waiting);
-    taken.session
+// What the proofs see of it: what a script leaves from one byte to the next.
+impl Model for Console {
+    ghost use Rattle.sessions.specs.declared.Session.{Session as CodeSession};
+
+    ghost Value = { CodeSession };
+
+    ghost view = { λ c. c.session };
+}
+
+impl Console {
+    // A piece of the script is carried out, and its answers are written.
+    fn feed(&mut self, piece: &[u8])
+        ensures { self.new ≡ fed self.old piece.now }
+    {
+        for byte in piece {
+            let taken = self.session.take_byte(*byte);
+            // the outlet refuses no text
+            let _ = put_answer(&mut self.out, &taken, &self.session);
+        }
+        self.out.flush();
+    }
+
+    // The script's end: a last line without a line end is carried out, and its answer is written.
+    fn finish(&mut self)
+        ensures { self.new ≡ after_end self.old }
+    {
+        let taken = self.session.end_script();
+        let _ = put_answer(&mut self.out, &taken, &self.session);
+        self.out.flush();
+    }
+
+    // Reads a piece of the script, carries it out, and answers how long it was.
+    fn take_piece(&mut self, script: &mut Stdin, input: &mut [u8]) -> usize
+        ensures within { result ≤ length input.new }
+        ensures answer { self.new ≡ fed self.old (take result input.new) }
+    {
+        let length = read_piece(script, input);
+        self.feed(&input[..length]);
+        length
+    }
 }
 
 // Reads a piece of the script, and answers how long it is. A read that fails counts as the script's end.
 fn read_piece(script: &mut Stdin, input: &mut [u8]) -> usize
     ensures { result ≤ length input.new }
 {
-    match script.read(input) {
-        Ok(length) => length,
-        Err(_) => 0,
-    }
-}
-
-// The session after a piece of the script, and how long the piece was.
-#[derive(Clone, Copy)]
-struct Fed {
-    session: Session,
-    length: usize,
-}
-
-// Reads a piece of the script and carries it out.
-fn take_piece(
-    script: &mut Stdin,
-    s: Session,
-    input: &mut [u8],
-    line: &mut [u8; 256],
-    area: &mut [u8; 2048],
-    out: &mut Outlet,
-) -> Fed
-    ensures answer { result.session ≡ (fed s line.old area.old (take result.length input.new)).session }
-    ensures new_line { line.new ≡ (fed s line.old area.old (take result.length input.new)).room }
-    ensures new_area { area.new ≡ (fed s line.old area.old (take result.length input.new)).store }
-{
-    let length = read_piece(script, input);
-    let session = feed(s, &input[0..length], line, area, out);
-    Fed { session, length }
+    script.read(input).unwrap_or(0)
 }
 
 // An empty piece is the script's end. A write that failed ends the program with its error.
 fn main(rt: HostRuntime) -> Result<(), Error> {
     let mut script = rt.stdin();
-    let mut piece = io::large_buffer();
-    let mut kept = [0u8; 256];
-    let mut stored = [0u8; 2048];
-    let mut answers = Outlet::new(rt.stdout());
-    let input: &mut [u8] = &mut piece;
-    let line = &mut kept;
-    let area = &mut stored;
-    let out = &mut answers;
-    let mut s = sessions::begin();
+    let mut input = io::large_buffer();
+    let mut console = Console {
+        session: Session::begin(),
+        out: Outlet::new(rt.stdout()),
+    };
+    // Stays: every loop has to end (docs/DECISIONS.md), and a script of more pieces there is not.
     for _ in 0..u64::MAX {
-        let next = take_piece(&mut script, s, input, line, area, out);
-        s = next.session;
-        out.outcome()?;
-        if next.length == 0 {
+        let length = console.take_piece(&mut script, &mut input);
+        console.out.outcome()?;
+        if length == 0 {
             break;
         }
     }
-    finish(s, line, area, out);
-    out.outcome()
+    console.finish();
+    console.out.outcome()
 }

@@ -8,7 +8,9 @@ ghost use Rattle.modes.specs.Events.{event_at, line_of};
 use modes::sets::{engages_alt, engages_flc, engages_hdg, engages_vs, selects_lappr, selects_nav};
 use modes::{Event, ModeSet};
 
-// The event of a number.
+// The event of a number, and none above 20.
+// Stays: `From` would say that nothing is lost, while all numbers above 20 give one event; and with
+// `TryFrom` each caller would put that event in by itself.
 pub fn event_at(number: u32) -> Event
     ensures { result ≡ event_at number }
 {
@@ -65,10 +67,7 @@ pub fn overspeed_after(e: Event, flag: bool) -> bool
 pub fn transfers(e: Event) -> bool
     ensures { result ≡ (line_of e).transfers }
 {
-    match e {
-        Event::Transfer => true,
-        _ => false,
-    }
+    matches!(e, Event::Transfer)
 }
 
 // Whether the FD switch of a side is pressed.

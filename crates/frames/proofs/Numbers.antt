@@ -1,31 +1,31 @@
 -- Numbers of a frame: raised on the way in, lowered on the way out. Assumes nothing.
 use mathlib.Core.Path.{◌≡◌, refl, sym, ap, ◌∙◌}
-use mathlib.Core.Bool.{true, false, false≢true}
-use Prim.Native.Nat.{ℕ, zero, suc, ◌+◌, ◌-◌, ◌*◌, ◌≤◌, ◌<◌}
+use mathlib.Core.Bool.{Bool, true, false, false≢true}
+use Prim.Native.Nat.{ℕ, zero, suc, ◌+◌, ◌*◌, ◌^◌, ◌≤◌, ◌<◌}
 use native.Mathlib.Omega.{arith}
-use borrow.Author.Tests.{leb-true, leb-false}
+use borrow.Author.Tests.{leb-true}
 use lib.Dec.{T, leb→le}
 use lib.IntN.{ℤ, pos, negsuc, neg_ℤ, nat_abs, ◌+ℤ◌, ◌-ℤ◌, +ℤ-neg_ℤ_cancel, -ℤ-+ℤ_cancel}
 use lib.Signed.{le_z}
+use Rattle.std.specs.Prelude.{Result, Ok, Err}
+use Rattle.std.specs.Result.{OkIff, result_unwrap_or}
+use Rattle.std.specs.Int.{FitsUnsignedBits, from_bool}
+use Rattle.modes.specs.Every.{flag_number}
 use Rattle.rotation.proofs.Signed.{sub_case}
 use Rattle.frames.specs.Frames.{natural, raised, high, low}
 
--- ---- raised, by the magnitude
+-- ---- raised, by what a conversion to 64 bits answers
 
-pub raised_above : (by : ℕ) (x : ℤ) → le_z (pos 0) x ≡ true → nat_abs x + by ≡ raised by x
-unfolding raised
-raised_above by (pos n) h = refl
-raised_above by (negsuc n) h = absurd (false≢true h)
+pub natural_by : {E : Type 0} (z : ℤ) (r : Result ℕ E) → nat_abs z < 2 ^ 64 → OkIff r (FitsUnsignedBits 64 z) (nat_abs z) → result_unwrap_or r 0 ≡ natural z
+natural_by (pos n) (Ok x) h e = e.1
+natural_by (pos n) (Err e) h none = absurd (none h)
+natural_by (negsuc n) (Ok x) h e = absurd e.0
+natural_by (negsuc n) (Err e) h none = refl
 
-pub raised_none : (by : ℕ) (x : ℤ) → le_z (pos 0) x ≡ false → by < nat_abs x → 0 ≡ raised by x
-unfolding raised
-raised_none by (pos n) h l = absurd (let b = leb-false 0 n h in omega arith)
-raised_none by (negsuc n) h l = sub_case (λ (z : ℤ). 0 ≡ natural z) by (suc n) (λ m. refl) (λ m. absurd (omega arith))
-
-pub raised_below : (by : ℕ) (x : ℤ) → le_z (pos 0) x ≡ false → nat_abs x ≤ by → by - nat_abs x ≡ raised by x
-unfolding raised
-raised_below by (pos n) h l = absurd (let b = leb-false 0 n h in omega arith)
-raised_below by (negsuc n) h l = sub_case (λ (z : ℤ). by - suc n ≡ natural z) by (suc n) (λ m. absurd (omega arith)) (λ m. refl)
+-- a flag as a byte
+pub flag_byte : (f : Bool) → from_bool f ≡ flag_number f
+flag_byte true = refl
+flag_byte false = refl
 
 -- ---- there and back
 

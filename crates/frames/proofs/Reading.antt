@@ -9,11 +9,11 @@ use lib.Dec.{T, eqb, leb, ltb, ltb→lt}
 use lib.IntN.{ℤ, pos, negsuc, neg_ℤ, ◌-ℤ◌}
 use lib.Signed.{le_z}
 use lib.ListN.{length, take, drop, length-append, take-append-drop}
-use lib.Seq.{take_all, drop-cons}
+use lib.Seq.{take_all, drop-cons, length-take-le}
 use Rattle.modes.specs.declared.ModeSet.{ModeSet}
 use Rattle.modes.specs.Sets.{coherent_set}
 use Rattle.modes.specs.Every.{flag_number}
-use Rattle.codes.specs.declared.Coded.{Coded}
+use Rattle.std.specs.Prelude.{Option, Some, None}
 use Rattle.codes.specs.Codes.{set_of}
 use Rattle.codes.proofs.Laws.{code_laws, decoded}
 use Rattle.bench.specs.declared.References.{References}
@@ -23,8 +23,7 @@ use Rattle.bench.specs.Parts.{reference}
 use Rattle.bench.specs.Ranges.{range, within, reference_range}
 use Rattle.bench.specs.Sound.{references_sound, channel_sound}
 use Rattle.bench.proofs.SoundParts.{and_left, and_right, and_both, ReferencesIn, ChannelIn, references_whole, channel_parts}
-use Rattle.frames.specs.declared.FrameRead.{FrameRead}
-use Rattle.frames.specs.Frames.{raised, high, low, frame_of, byte_at, one_byte, two_bytes, is_marked, references_in, refused, accepted_if, read_with_set, fields_read, frame_read, read_at}
+use Rattle.frames.specs.Frames.{FrameRead, raised, high, low, frame_of, byte_at, one_byte, two_bytes, is_marked, references_in, refused, accepted_if, read_with_set, fields_read, frame_read, read_at}
 use Rattle.frames.specs.Laws.{Bytes, accepted_read, ItsFrame}
 use Rattle.frames.proofs.Numbers.{Raised, in_range, raised_back, lowered_back, joined, kept_low, high_of, low_of}
 use Rattle.frames.proofs.Areas.{frame_length}
@@ -61,10 +60,10 @@ module _ (part rest rest' : List ℕ) where
   unfolding is_marked
   same_mark = refl
 
-  same_set_lem : (k : Coded) → read_with_set k (front rest) ≡ read_with_set k (front rest')
+  same_set_lem : (k : Option ModeSet) → read_with_set k (front rest) ≡ read_with_set k (front rest')
   unfolding references_in
-  same_set_lem (Coded.Set s) = refl
-  same_set_lem Coded.NoSet = refl
+  same_set_lem (Some s) = refl
+  same_set_lem None = refl
 
   same_fields : fields_read (front rest) ≡ fields_read (front rest')
   unfolding fields_read
@@ -86,6 +85,12 @@ by_first part = go (ltb (length part) 19) refl
         ap frame_read (sym (take-append-drop 19 part) ∙ ap (λ (bs : List ℕ). bs ++ drop 19 part) first)
         ∙ first_judged part (drop 19 part) []
         ∙ ap frame_read (append-nil (bytes_from 19 0 part) ∙ sym first)
+
+-- what is read of a part whose first 19 bytes are a frame
+pub read_by : (part frame : List ℕ) → 19 ≤ length part → frame ≡ take 19 part → frame_read part ≡ cond (is_marked frame) (fields_read frame) (refused 8)
+read_by part frame h e =
+    let long = ap (λ (bs : List ℕ). length bs) e ∙ length-take-le 19 part h in
+    by_first part ∙ ap frame_read (sym e) ∙ judged frame (omega arith)
 
 pub local : (start start' : ℕ) (area area' : List ℕ) → take 19 (drop start area) ≡ take 19 (drop start' area') → read_at start area ≡ read_at start' area'
 unfolding read_at
@@ -158,7 +163,7 @@ fields_back side c rest is_side ok =
     let part = frame_of side c ++ rest in
     let references = references_back side c rest ok.references in
     let in_ranges_lem = ap references_sound references ∙ references_whole c.references ok.references in
-    ap (λ (k : Coded). read_with_set k part) (code_laws.set_back c.set (subst T (sym ok.set) tt))
+    ap (λ (k : Option ModeSet). read_with_set k part) (code_laws.set_back c.set (subst T (sym ok.set) tt))
     ∙ (λ i. accepted_if (is_side i && flag_le c.fd i && in_ranges_lem i) side (record { fd = flag_back c.fd i; set = c.set; references = references i }))
 
 pub read_back : (side : ℕ) (c : Channel) (rest : List ℕ) → side ≤ 1 → T (channel_sound c) → frame_read (frame_of side c ++ rest) ≡ accepted_read side c
@@ -180,11 +185,11 @@ pub record Shown (part : List ℕ) : Type 0 where
   pub long : 19 ≤ length part
   pub mark : is_marked part ≡ true
   pub set : ModeSet
-  pub code : set_of (byte_at part 7) ≡ Coded.Set set
+  pub code : set_of (byte_at part 7) ≡ Some set
   pub ranges : in_ranges part ≡ true
   pub answer : frame_read part ≡ accepted_read (byte_at part 5) (channel_of part set)
 
-with_ranges : (part : List ℕ) (s : ModeSet) → 19 ≤ length part → is_marked part ≡ true → set_of (byte_at part 7) ≡ Coded.Set s →
+with_ranges : (part : List ℕ) (s : ModeSet) → 19 ≤ length part → is_marked part ≡ true → set_of (byte_at part 7) ≡ Some s →
     (t : Bool) → in_ranges part ≡ t → (accepted_if t (byte_at part 5) (channel_of part s)).refusal ≡ 0 → Shown part
 unfolding fields_read
 with_ranges part s l m k false t e = absurd (omega arith)
@@ -197,7 +202,7 @@ with_ranges part s l m k true t e = record {
   answer =
       judged part l
       ∙ ap (λ (u : Bool). cond u (fields_read part) (refused 8)) m
-      ∙ ap (λ (k : Coded). read_with_set k part) k
+      ∙ ap (λ (k : Option ModeSet). read_with_set k part) k
       ∙ ap (λ (t : Bool). accepted_if t (byte_at part 5) (channel_of part s)) t;
 }
 
@@ -205,12 +210,12 @@ shown : (part : List ℕ) → (frame_read part).refusal ≡ 0 → Shown part
 unfolding frame_read fields_read
 shown part e = go (ltb (length part) 19) (is_marked part) (set_of (byte_at part 7)) refl refl refl e
   where
-    go : (t u : Bool) (k : Coded) → ltb (length part) 19 ≡ t → is_marked part ≡ u → set_of (byte_at part 7) ≡ k →
+    go : (t u : Bool) (k : Option ModeSet) → ltb (length part) 19 ≡ t → is_marked part ≡ u → set_of (byte_at part 7) ≡ k →
         (cond t (refused 7) (cond u (read_with_set k part) (refused 8))).refusal ≡ 0 → Shown part
     go true u k p q r e = absurd (omega arith)
     go false false k p q r e = absurd (omega arith)
-    go false true Coded.NoSet p q r e = absurd (omega arith)
-    go false true (Coded.Set s) p q r e = with_ranges part s (ltb-false (length part) 19 p) q r (in_ranges part) refl e
+    go false true None p q r e = absurd (omega arith)
+    go false true (Some s) p q r e = with_ranges part s (ltb-false (length part) 19 p) q r (in_ranges part) refl e
 
 -- the five bytes in front
 record Marked (part : List ℕ) : Type 0 where
@@ -304,9 +309,9 @@ refused_read part h = go (ltb (length part) 19) (is_marked part) (set_of (byte_a
     in_ranges_lem s true h = absurd (h refl)
     in_ranges_lem s false h = refl
 
-    go : (t u : Bool) (k : Coded) → ((cond t (refused 7) (cond u (read_with_set k part) (refused 8))).refusal ≡ 0 → ⊥) →
+    go : (t u : Bool) (k : Option ModeSet) → ((cond t (refused 7) (cond u (read_with_set k part) (refused 8))).refusal ≡ 0 → ⊥) →
         cond t (refused 7) (cond u (read_with_set k part) (refused 8)) ≡ refused (cond t (refused 7) (cond u (read_with_set k part) (refused 8))).refusal
     go true u k h = refl
     go false false k h = refl
-    go false true Coded.NoSet h = refl
-    go false true (Coded.Set s) h = in_ranges_lem s (in_ranges part) h
+    go false true None h = refl
+    go false true (Some s) h = in_ranges_lem s (in_ranges part) h

@@ -1,15 +1,16 @@
 -- Frames on a bus area: what a send copies, as 19 bytes. Document 02, 2026-02. An area, and a part of it, is the list of its bytes.
-use Rattle.std.specs.Prelude.{Bool, false, ◌&&◌, cond, List, [], ◌∷◌, ◌++◌, ℕ, ◌+◌, ◌*◌, ◌/◌, ◌%◌, eqb, leb, ltb, ℤ, pos, negsuc, ◌+ℤ◌, ◌-ℤ◌, length, take, drop, get_or}
+use Rattle.std.specs.Prelude.{Bool, false, ◌&&◌, cond, List, [], ◌∷◌, ◌++◌, ℕ, ◌+◌, ◌*◌, ◌/◌, ◌%◌, eqb, leb, ltb, ℤ, pos, negsuc, ◌+ℤ◌, ◌-ℤ◌, length, take, drop, get_or, Option, Some, None, Result, Ok, Err}
 use Rattle.modes.specs.declared.ModeSet.{ModeSet}
 use Rattle.modes.specs.Every.{flag_number}
-use Rattle.codes.specs.declared.Coded.{Coded}
 use Rattle.codes.specs.Codes.{code_of, set_of}
 use Rattle.bench.specs.declared.References.{References}
 use Rattle.bench.specs.declared.Channel.{Channel}
 use Rattle.bench.specs.declared.Bench.{Bench}
 use Rattle.bench.specs.Parts.{box, zero_references}
 use Rattle.bench.specs.Sound.{references_sound, sound}
-use Rattle.frames.specs.declared.FrameRead.{FrameRead}
+use Rattle.bench.specs.declared.answers.Refusal.{Refusal}
+use Rattle.bench.specs.Answers.{number_of_refusal}
+use Rattle.frames.specs.declared.Frame.{Frame}
 
 -- ---- the bytes of a frame
 
@@ -90,19 +91,30 @@ references_in part = record {
   pitch = one_byte part 12 (pos 20);
 }
 
+-- what a read says, by the paper's numbers: its refusal or 0, the side, and the channel
+pub record FrameRead : Type 0 where
+  pub refusal : ℕ
+  pub side : ℕ
+  pub channel : Channel
+
 -- a refused read is zeros but for its number
 abbrev pub refused : ℕ → FrameRead
 refused n = record { refusal = n; side = 0; channel = record { fd = false; set = ModeSet.Off; references = zero_references } }
+
+-- the answer of the reader, as that
+abbrev pub as_read : Result Frame Refusal → FrameRead
+as_read (Ok f) = record { refusal = 0; side = f.side; channel = f.channel }
+as_read (Err e) = record { refusal = number_of_refusal e; side = 0; channel = record { fd = false; set = ModeSet.Off; references = zero_references } }
 
 abbrev pub accepted_if : Bool → ℕ → Channel → FrameRead
 accepted_if in_range side c = cond in_range (record { refusal = 0; side = side; channel = c }) (refused 9)
 
 -- side and FD are 0 or 1, the code has a set, and each reference is in its range
-abbrev pub read_with_set : Coded → List ℕ → FrameRead
-read_with_set (Coded.Set s) part =
+abbrev pub read_with_set : Option ModeSet → List ℕ → FrameRead
+read_with_set (Some s) part =
     accepted_if (leb (byte_at part 5) 1 && leb (byte_at part 6) 1 && references_sound (references_in part)) (byte_at part 5)
     (record { fd = eqb (byte_at part 6) 1; set = s; references = references_in part })
-read_with_set Coded.NoSet part = refused 9
+read_with_set None part = refused 9
 
 unfoldable pub fields_read : List ℕ → FrameRead
 fields_read part = read_with_set (set_of (byte_at part 7)) part

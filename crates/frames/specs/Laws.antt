@@ -11,8 +11,7 @@ use Rattle.bench.specs.declared.Bench.{Bench}
 use Rattle.bench.specs.Parts.{box}
 use Rattle.bench.specs.Holds.{power_on}
 use Rattle.bench.specs.Sound.{channel_sound}
-use Rattle.frames.specs.declared.FrameRead.{FrameRead}
-use Rattle.frames.specs.Frames.{frame_of, write_refusal, area_written, accepted_if, refused, frame_read, read_at}
+use Rattle.frames.specs.Frames.{FrameRead, frame_of, write_refusal, area_written, accepted_if, refused, frame_read, read_at}
 
 -- all of a list are bytes
 abbrev pub Bytes : List ℕ → Type 0

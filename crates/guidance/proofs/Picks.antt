@@ -12,7 +12,8 @@ use Rattle.bench.specs.Holds.{started}
 use Rattle.bench.specs.Sound.{sound}
 use Rattle.calls.specs.declared.answers.Display.{Display}
 use Rattle.calls.specs.Displays.{shown, blank}
-use Rattle.calls.specs.Calls.{Call, display, refusal, display_answer}
+use Rattle.calls.specs.declared.call.Call.{Call}
+use Rattle.calls.specs.Calls.{refusal, display_answer}
 use Rattle.bench.proofs.SoundParts.{by_cond}
 use Rattle.bench.proofs.StartLaws.{start_sound}
 use Rattle.claim.specs.Claim.{Keeps, modes_on}
@@ -46,7 +47,7 @@ kept_picks false d refusal h k =
 pub refused_pick : (b : Bench) (s : ℕ) → RefusedPick b s
 unfolding picked_of display_answer
 refused_pick b s n =
-    let r = refusal b (display s) in
+    let r = refusal b (Call.Display s) in
     by_cond (λ (d : Display). NoLaws (record { refusal = r; lateral = d.lateral; vertical = d.vertical })) (eqb r 0) (shown b s) blank
     (λ e. absurd (n (eqb-true r 0 e)))
     (λ e. record { lateral = refl; vertical = refl })

@@ -1,11 +1,25 @@
 -- The picker of the guidance program: what a side's display says of its two laws and of its refusal, and nothing more. Document 01, 'Display'.
 -- Here are definitions and the statement only; the proof is in proofs/.
-use Rattle.std.specs.Prelude.{◌≡◌, ◌↔◌, Bool, true, false, List, ℕ, ◌≤◌, ◌<◌}
+use Rattle.std.specs.Prelude.{◌≡◌, ◌↔◌, Bool, true, false, List, ℕ, ◌≤◌, ◌<◌, Result, Ok, Err}
 use Rattle.bench.specs.declared.Bench.{Bench}
-use Rattle.calls.specs.Calls.{Call, display_answer}
+use Rattle.bench.specs.declared.answers.Refusal.{Refusal}
+use Rattle.bench.specs.Answers.{number_of_refusal}
+use Rattle.calls.specs.declared.call.Call.{Call}
+use Rattle.calls.specs.Calls.{display_answer}
 use Rattle.claim.specs.Lists.{after}
 use Rattle.claim.specs.Claim.{modes_on}
-use Rattle.guidance.specs.declared.Picked.{Picked}
+use Rattle.guidance.specs.declared.Laws.{Laws}
+
+-- what is picked: a refusal and two laws
+pub record Picked : Type 0 where
+  pub refusal : ℕ
+  pub lateral : ℕ
+  pub vertical : ℕ
+
+-- the code's answer as that: 0 and 0 with the refusal's number where it is refused
+abbrev pub as_picked : Result Laws Refusal → Picked
+as_picked (Ok laws) = record { refusal = 0; lateral = laws.lateral; vertical = laws.vertical }
+as_picked (Err refusal) = record { refusal = number_of_refusal refusal; lateral = 0; vertical = 0 }
 
 -- a display's refusal and its two laws, which are 0 where it is refused, as all of its numbers then are
 unfoldable pub picked_of : Bench → ℕ → Picked

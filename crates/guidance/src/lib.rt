@@ -3,28 +3,26 @@
 #![tactic(auto)]
 
 ghost use Rattle.std.specs.Prelude.{◌≡◌};
-ghost use Rattle.guidance.specs.Picker.{picked_of};
+ghost use Rattle.guidance.specs.Picker.{picked_of, as_picked};
 
 use bench::Bench;
+use bench::answers::Refusal;
 
-// The display's refusal and its two laws, which are 0 where it is refused.
+// The two laws of a display.
 #[derive(Clone, Copy)]
-pub struct Picked {
-    pub refusal: u32,
+pub struct Laws {
     pub lateral: u32,
     pub vertical: u32,
 }
 
-// The laws to fly on a side of a bench.
+// The laws to fly on a side of a bench, or the display's refusal.
 #[tactic(auto, unfolding(crate::specs::Picker::picked_of))]
-pub fn pick(b: Bench, side: u32) -> Picked
-    ensures { result ≡ picked_of b side }
+pub fn pick(b: Bench, side: u32) -> Result<Laws, Refusal>
+    ensures { as_picked result ≡ picked_of b side }
 {
-    let answer = calls::display(b, side);
-    let shown = answer.display;
-    Picked {
-        refusal: answer.refusal,
+    let shown = calls::display(b, side).outcome?;
+    Ok(Laws {
         lateral: shown.lateral,
         vertical: shown.vertical,
-    }
+    })
 }

@@ -1,1 +1,2 @@
 pub mod ByLaw
+pub mod Clicks

@@ -3,23 +3,58 @@
 
 ghost use Rattle.std.specs.Prelude.{◌≡◌, ◌<◌, pos, ◌*ℤ◌};
 ghost use Rattle.std.specs.Int.Signed.{mag};
+ghost use Rattle.rotation.specs.Rotation.{rotation_of};
 ghost use Rattle.modes.specs.Sets.{PITCH, ALTSEL, engage, engaged_in, in_on};
-ghost use Rattle.bench.specs.Sides.{where_acting};
 ghost use Rattle.knobs.specs.Knobs.{counted, moved, referred, reference_moved, pitched, differ, wheel_turned, altitude_moved, altitude_turned, heading_moved, heading_turned, knob_turned, turned};
 
 use bench::parts::{
     HEADING, IAS, PRESELECTED, VERTICAL_SPEED, box_of, reference_at, with_box, with_reference,
 };
-use bench::{Bench, References, side_acts};
+use bench::{Bench, Channel, References};
 use modes::ModeSet;
+use steps::{SideChange, on_acting};
+
+// How far a knob was turned: from -128 to 127 (`mag` of -128 is 127), so that a hundred times as much
+// fits.
+#[derive(Clone, Copy)]
+struct Rotation {
+    clicks: i32,
+    ghost small: { mag clicks < 128 },
+}
+
+impl Rotation {
+    // From one count to another.
+    fn between(old: u8, new: u8) -> Rotation
+        ensures { result.clicks ≡ rotation_of old new }
+    {
+        Rotation {
+            clicks: rotation::rotation(old, new),
+        }
+    }
+
+    fn hundreds(self) -> i32
+        ensures { result ≡ self.clicks *ℤ pos 100 }
+    {
+        self.clicks * 100
+    }
+}
+
+// A turn of a knob.
+#[derive(Clone, Copy)]
+struct Turn {
+    knob: u32,
+    rotation: Rotation,
+}
 
 // The bench with a knob's new count.
-#[tactic(auto, unfolding(crate::specs::Knobs::counted))]
+#[tactic(auto, unfolding(crate::specs::Knobs::counted, bench::specs::Parts::with_counts))]
 fn count(b: Bench, knob: u32, n: u8) -> Bench
     ensures { result ≡ counted knob n b }
 {
-    let was = b.counts;
-    bench::parts::with_counts(b, bench::parts::with_count(was, knob, n))
+    Bench {
+        counts: bench::parts::with_count(b.counts, knob, n),
+        ..b
+    }
 }
 
 // The references with an amount added at a place, clamped to its range.
@@ -32,23 +67,29 @@ fn move_at(r: References, place: u32, amount: i32) -> References
 }
 
 // The bench with other references on a side.
-#[tactic(auto, unfolding(crate::specs::Knobs::referred))]
+#[tactic(auto, unfolding(crate::specs::Knobs::referred, bench::specs::Parts::with_references))]
 fn refer(b: Bench, side: u32, references: References) -> Bench
     ensures { result ≡ referred references side b }
 {
-    let c = box_of(b, side);
-    with_box(b, side, bench::parts::with_references(c, references))
+    let c = Channel {
+        references,
+        ..box_of(b, side)
+    };
+    with_box(b, side, c)
 }
 
-fn move_reference(b: Bench, side: u32, place: u32, amount: i32) -> Bench
-    ensures { result ≡ reference_moved place amount side b }
+// Stays: a bench and a side come one by one, as in the definitions and in the crates below, which would
+// take a struct of both apart at each call.
+fn move_reference(b: Bench, side: u32, place: u32, rotation: Rotation) -> Bench
+    ensures { result ≡ reference_moved place rotation.clicks side b }
 {
     let c = box_of(b, side);
-    let was = c.references;
-    refer(b, side, move_at(was, place, amount))
+    refer(b, side, move_at(c.references, place, rotation.clicks))
 }
 
 // PITCH in a set that is On.
+// Stays: one function for this match and that of an event's mode change would take a closure, which has
+// to be callable, and no public function of this repository asks anything of its callers.
 fn pitch_in(s: ModeSet) -> ModeSet
     ensures { result ≡ in_on (engage PITCH) s }
 {
@@ -64,53 +105,36 @@ fn engage_pitch_on(b: Bench, side: u32) -> Bench
     ensures { result ≡ pitched side b }
 {
     let c = box_of(b, side);
-    let was = c.set;
-    steps::settle(b, side, pitch_in(was))
+    steps::settle(b, side, pitch_in(c.set))
 }
 
 // In VS and PITCH, laws 2 and 1, the wheel moves the reference; in VAPPR, law 7, and Off it does
 // nothing; in another mode PITCH engages.
-fn turn_wheel(b: Bench, side: u32, amount: i32) -> Bench
-    ensures { result ≡ wheel_turned amount side b }
+fn turn_wheel(b: Bench, side: u32, rotation: Rotation) -> Bench
+    ensures { result ≡ wheel_turned rotation.clicks side b }
 {
     let c = box_of(b, side);
-    let set = c.set;
-    let law = modes::numbers::vertical_law(set);
+    let law = modes::numbers::vertical_law(c.set);
     match law {
         0 => b,
-        1 => move_reference(b, side, bench::parts::PITCH, amount),
-        2 => move_reference(b, side, VERTICAL_SPEED, amount),
+        1 => move_reference(b, side, bench::parts::PITCH, rotation),
+        2 => move_reference(b, side, VERTICAL_SPEED, rotation),
         7 => b,
         _ => engage_pitch_on(b, side),
     }
 }
 
-// A hundred of a rotation, which is from -128 to 127 (`mag` of -128 is 127), so that it fits.
-fn hundreds(amount: i32) -> i32
-    requires { mag amount < 128 }
-    ensures { result ≡ amount *ℤ pos 100 }
+fn move_altitude(r: References, rotation: Rotation) -> References
+    ensures { result ≡ altitude_moved rotation.clicks r }
 {
-    amount * 100
-}
-
-fn move_altitude(r: References, amount: i32) -> References
-    requires { mag amount < 128 }
-    ensures { result ≡ altitude_moved amount r }
-{
-    move_at(r, PRESELECTED, hundreds(amount))
-}
-
-fn differs(x: i32, y: i32) -> bool
-    ensures { result ≡ differ x y }
-{
-    (x < y) | (y < x)
+    move_at(r, PRESELECTED, rotation.hundreds())
 }
 
 // Whether the preselected altitude differs between two sets of references.
 fn preselection_differs(was: References, next: References) -> bool
     ensures { result ≡ differ was.preselected next.preselected }
 {
-    differs(was.preselected, next.preselected)
+    was.preselected != next.preselected
 }
 
 // Whether ALTSEL, law 5 or 6, is engaged.
@@ -118,24 +142,18 @@ fn in_altsel(s: ModeSet) -> bool
     ensures { result ≡ engaged_in ALTSEL s }
 {
     let law = modes::numbers::vertical_law(s);
-    match law {
-        5 | 6 => true,
-        _ => false,
-    }
+    matches!(law, 5 | 6)
 }
 
 // The preselected altitude moves; if it is another one then, PITCH ends an engaged ALTSEL.
 #[tactic(auto, unfolding(crate::specs::Knobs::altitude_turned))]
-fn turn_altitude(b: Bench, side: u32, amount: i32) -> Bench
-    requires { mag amount < 128 }
-    ensures { result ≡ altitude_turned amount side b }
+fn turn_altitude(b: Bench, side: u32, rotation: Rotation) -> Bench
+    ensures { result ≡ altitude_turned rotation.clicks side b }
 {
     let c = box_of(b, side);
-    let set = c.set;
-    let was = c.references;
-    let next = move_altitude(was, amount);
-    let capturing = in_altsel(set);
-    let changed = preselection_differs(was, next);
+    let next = move_altitude(c.references, rotation);
+    let capturing = in_altsel(c.set);
+    let changed = preselection_differs(c.references, next);
     let moved = refer(b, side, next);
     if capturing & changed {
         engage_pitch_on(moved, side)
@@ -155,38 +173,26 @@ fn move_heading(r: References, amount: i32) -> References
     )
 }
 
-fn turn_heading(b: Bench, side: u32, amount: i32) -> Bench
-    ensures { result ≡ heading_turned amount side b }
+fn turn_heading(b: Bench, side: u32, rotation: Rotation) -> Bench
+    ensures { result ≡ heading_turned rotation.clicks side b }
 {
     let c = box_of(b, side);
-    let was = c.references;
-    refer(b, side, move_heading(was, amount))
+    refer(b, side, move_heading(c.references, rotation.clicks))
 }
 
-// A rotation of a knob, on a side.
-#[tactic(auto, unfolding(crate::specs::Knobs::knob_turned))]
-fn turn_knob(b: Bench, knob: u32, amount: i32, side: u32) -> Bench
-    requires { mag amount < 128 }
-    ensures { result ≡ knob_turned knob amount side b }
-{
-    match knob {
-        0 => turn_wheel(b, side, amount),
-        1 => turn_altitude(b, side, amount),
-        2 => move_reference(b, side, IAS, amount),
-        _ => turn_heading(b, side, amount),
-    }
-}
+// The wheel, altitude and speed are knobs 0 to 2, and heading is 3.
+impl SideChange for Turn {
+    ghost changed = { λ t. knob_turned t.knob t.rotation.clicks };
 
-// A rotation of a knob, on a side that acts; another is left as it is.
-fn where_acting(b: Bench, knob: u32, amount: i32, side: u32) -> Bench
-    requires { mag amount < 128 }
-    ensures { result ≡ where_acting (knob_turned knob amount) side b }
-{
-    let acts = side_acts(b, side);
-    if acts {
-        turn_knob(b, knob, amount, side)
-    } else {
-        b
+    #[tactic(auto, unfolding(crate::specs::Knobs::knob_turned))]
+    fn change(self, side: u32, b: Bench) -> Bench {
+        let knob = self.knob;
+        match knob {
+            0 => turn_wheel(b, side, self.rotation),
+            1 => turn_altitude(b, side, self.rotation),
+            2 => move_reference(b, side, IAS, self.rotation),
+            _ => turn_heading(b, side, self.rotation),
+        }
     }
 }
 
@@ -195,13 +201,14 @@ fn where_acting(b: Bench, knob: u32, amount: i32, side: u32) -> Bench
 pub fn turn_to(b: Bench, knob: u32, new: u8) -> Bench
     ensures { result ≡ turned knob new b }
 {
-    let counts = b.counts;
-    let old = bench::parts::count_of(counts, knob);
+    let old = bench::parts::count_of(b.counts, knob);
     let next = count(b, knob, new);
     if new == old {
         return next;
     }
-    let amount = rotation::rotation(old, new);
-    let left = where_acting(next, knob, amount, 0);
-    where_acting(left, knob, amount, 1)
+    let turn = Turn {
+        knob,
+        rotation: Rotation::between(old, new),
+    };
+    on_acting(turn, next)
 }

@@ -1,6 +1,4 @@
 // Bit patterns of floats to round. Made by tests/vectors; do not edit.
-pub const COUNT: usize = 680;
-
 pub const PATTERNS: [u64; 680] = [
     0x0000000000000000,
     0x0000000000000001,

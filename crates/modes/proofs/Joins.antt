@@ -8,7 +8,7 @@ use native.Mathlib.Omega.{arith}
 use Rattle.modes.specs.declared.Modes.{Modes}
 use Rattle.modes.specs.declared.ModeSet.{ModeSet}
 use Rattle.modes.specs.Every.{every_set, armed_number, same_flag}
-use Rattle.modes.specs.Sets.{Mode, NAV, LAPPR, ALTSEL, arms_nav, arms_lappr, engaged, armed, cleared, once, coherent, engaged_in, is_off}
+use Rattle.modes.specs.Sets.{Mode, HDG, NAV, LAPPR, VS, FLC, ALT, ALTSEL, VAPPR, arms_nav, arms_lappr, engaged, armed, cleared, once, coherent, engaged_in, approach_engaged, is_off}
 use Rattle.modes.specs.Numbers.{lateral_law, vertical_law, worth, armed_sum, mode_lamps}
 use Rattle.modes.specs.Private.{is_nav, is_lappr, is_vappr, armed_agrees, altsel_number, lateral_lamp, armed_lamp, vertical_lamp}
 use Rattle.modes.proofs.Every.{agree_test, agree_number, agree_sets}
@@ -53,6 +53,27 @@ lateral_shown k x = agree_sets (λ s. eqb (lateral_law s) k) (engaged_in x)
 
 pub vertical_shown : (k : ℕ) (x : Mode) → T (every_set (λ s. same_flag (eqb (vertical_law s) k) (engaged_in x s))) → (s : ModeSet) → eqb (vertical_law s) k ≡ engaged_in x s
 vertical_shown k x = agree_sets (λ s. eqb (vertical_law s) k) (engaged_in x)
+
+-- the laws that single functions ask for
+pub hdg_shown : (s : ModeSet) → eqb (lateral_law s) 2 ≡ engaged_in HDG s
+unfolding engaged
+hdg_shown = lateral_shown 2 HDG tt
+
+pub vs_shown : (s : ModeSet) → eqb (vertical_law s) 2 ≡ engaged_in VS s
+unfolding engaged
+vs_shown = vertical_shown 2 VS tt
+
+pub flc_shown : (s : ModeSet) → eqb (vertical_law s) 3 ≡ engaged_in FLC s
+unfolding engaged
+flc_shown = vertical_shown 3 FLC tt
+
+pub alt_shown : (s : ModeSet) → eqb (vertical_law s) 4 ≡ engaged_in ALT s
+unfolding engaged
+alt_shown = vertical_shown 4 ALT tt
+
+pub approach_shown : (s : ModeSet) → (eqb (lateral_law s) 4 && eqb (vertical_law s) 7) ≡ approach_engaged s
+unfolding engaged
+approach_shown s = λ i. lateral_shown 4 LAPPR tt s i && vertical_shown 7 VAPPR tt s i
 
 pub altsel_shown : (s : ModeSet) → (not (ltb (vertical_law s) 5) && ltb (vertical_law s) 7) ≡ engaged_in ALTSEL s
 unfolding engaged

@@ -2,4 +2,3 @@ pub mod Finite
 pub mod Every
 pub mod Laws
 pub mod Joins
-pub mod Arms

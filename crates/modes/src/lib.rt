@@ -28,6 +28,8 @@ pub enum Vertical {
 }
 
 // The armed lateral mode: at most one of two.
+// Stays: three states side by side, with numbers from 0 to 2. An `Option` of two nests one match in
+// another.
 #[derive(Clone, Copy)]
 pub enum ArmedLateral {
     Neither,
@@ -44,6 +46,8 @@ pub struct Modes {
     pub vappr_armed: bool,
 }
 
+// Stays: Off is a state of a side, and not an absence. With `Option<Modes>` a code that has no set, an
+// `Option<ModeSet>` of the crate codes, and a set that is Off would both read `None`.
 #[derive(Clone, Copy)]
 pub enum ModeSet {
     Off,
@@ -51,6 +55,8 @@ pub enum ModeSet {
 }
 
 // The events in the order of their numbers, 0 to 20, and none.
+// Stays: 32, no event, has a number and a line in the paper's table as the others do, and each step
+// matches it beside them; with `Option<Event>` each would match twice.
 #[derive(Clone, Copy)]
 pub enum Event {
     ApDisconnect,

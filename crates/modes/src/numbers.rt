@@ -7,30 +7,47 @@ ghost use Rattle.modes.specs.Private.{altsel_number, lateral_lamp, armed_lamp, v
 
 use crate::{ArmedLateral, Lateral, ModeSet, Vertical};
 
-pub fn lateral_number(l: Lateral) -> u32
-    ensures { result ≡ lateral_number l }
-{
-    match l {
-        Lateral::Roll => 1,
-        Lateral::Hdg => 2,
-        Lateral::Nav => 3,
-        Lateral::Lappr => 4,
-        Lateral::Lga => 5,
+impl From<Lateral> for u32 {
+    ghost from_gives = { λ l n. n ≡ lateral_number l };
+
+    fn from(l: Lateral) -> u32 {
+        match l {
+            Lateral::Roll => 1,
+            Lateral::Hdg => 2,
+            Lateral::Nav => 3,
+            Lateral::Lappr => 4,
+            Lateral::Lga => 5,
+        }
     }
 }
 
-pub fn vertical_number(v: Vertical) -> u32
-    ensures { result ≡ vertical_number v }
-{
-    match v {
-        Vertical::Pitch => 1,
-        Vertical::Vs => 2,
-        Vertical::Flc => 3,
-        Vertical::Alt => 4,
-        Vertical::AltselCapture => 5,
-        Vertical::AltselTrack => 6,
-        Vertical::Vappr => 7,
-        Vertical::Vga => 8,
+impl From<Vertical> for u32 {
+    ghost from_gives = { λ v n. n ≡ vertical_number v };
+
+    fn from(v: Vertical) -> u32 {
+        match v {
+            Vertical::Pitch => 1,
+            Vertical::Vs => 2,
+            Vertical::Flc => 3,
+            Vertical::Alt => 4,
+            Vertical::AltselCapture => 5,
+            Vertical::AltselTrack => 6,
+            Vertical::Vappr => 7,
+            Vertical::Vga => 8,
+        }
+    }
+}
+
+// What the armed lateral mode adds to the armed sum: 1 for NAV, 2 for LAPPR.
+impl From<ArmedLateral> for u32 {
+    ghost from_gives = { λ a n. n ≡ armed_number a };
+
+    fn from(a: ArmedLateral) -> u32 {
+        match a {
+            ArmedLateral::Neither => 0,
+            ArmedLateral::Nav => 1,
+            ArmedLateral::Lappr => 2,
+        }
     }
 }
 
@@ -40,10 +57,7 @@ pub fn lateral_law(s: ModeSet) -> u32
 {
     match s {
         ModeSet::Off => 0,
-        ModeSet::On(m) => {
-            let l = m.lateral;
-            lateral_number(l)
-        }
+        ModeSet::On(m) => u32::from(m.lateral),
     }
 }
 
@@ -53,31 +67,20 @@ pub fn vertical_law(s: ModeSet) -> u32
 {
     match s {
         ModeSet::Off => 0,
-        ModeSet::On(m) => {
-            let v = m.vertical;
-            vertical_number(v)
-        }
+        ModeSet::On(m) => u32::from(m.vertical),
     }
 }
 
 pub fn arms_nav(a: ArmedLateral) -> bool
     ensures { result ≡ arms_nav a }
 {
-    match a {
-        ArmedLateral::Neither => false,
-        ArmedLateral::Nav => true,
-        ArmedLateral::Lappr => false,
-    }
+    matches!(a, ArmedLateral::Nav)
 }
 
 pub fn arms_lappr(a: ArmedLateral) -> bool
     ensures { result ≡ arms_lappr a }
 {
-    match a {
-        ArmedLateral::Neither => false,
-        ArmedLateral::Nav => false,
-        ArmedLateral::Lappr => true,
-    }
+    matches!(a, ArmedLateral::Lappr)
 }
 
 // n where `lit` holds, as a part of a sum.
@@ -87,43 +90,25 @@ pub fn worth(lit: bool, n: u32) -> u32
     if lit { n } else { 0 }
 }
 
-// What the armed lateral mode adds to the armed sum: 1 for NAV, 2 for LAPPR.
-pub fn armed_number(a: ArmedLateral) -> u32
-    ensures { result ≡ armed_number a }
-{
-    match a {
-        ArmedLateral::Neither => 0,
-        ArmedLateral::Nav => 1,
-        ArmedLateral::Lappr => 2,
-    }
-}
-
 // What ALTSEL adds, which is armed beside PITCH, VS, FLC and VGA: 4.
 fn altsel_number(v: Vertical) -> u32
     ensures { result ≡ altsel_number v }
 {
     match v {
-        Vertical::Pitch => 4,
-        Vertical::Vs => 4,
-        Vertical::Flc => 4,
-        Vertical::Alt => 0,
-        Vertical::AltselCapture => 0,
-        Vertical::AltselTrack => 0,
-        Vertical::Vappr => 0,
-        Vertical::Vga => 4,
+        Vertical::Pitch | Vertical::Vs | Vertical::Flc | Vertical::Vga => 4,
+        Vertical::Alt | Vertical::AltselCapture | Vertical::AltselTrack | Vertical::Vappr => 0,
     }
 }
 
 // The armed modes as a sum: 1 for NAV, 2 for LAPPR, 4 for ALTSEL, 8 for VAPPR. No two share a bit.
+#[tactic(auto, using(crate::proofs::Joins::armed_parts), unfolding(crate::specs::Numbers::armed_sum))]
 pub fn armed_sum(s: ModeSet) -> u32
     ensures { result ≡ armed_sum s }
 {
     match s {
         ModeSet::Off => 0,
         ModeSet::On(m) => {
-            let a = m.armed;
-            let v = m.vertical;
-            armed_number(a) | altsel_number(v) | worth(m.vappr_armed, 8)
+            u32::from(m.armed) | altsel_number(m.vertical) | worth(m.vappr_armed, 8)
         }
     }
 }
@@ -169,16 +154,14 @@ fn vertical_lamp(v: Vertical) -> u32
 }
 
 // The mode lamps as a sum of bits: HDG is the lowest, then NAV, APPR, VS, FLC and ALT.
+#[tactic(auto, using(crate::proofs::Joins::lamp_parts), unfolding(crate::specs::Numbers::mode_lamps))]
 pub fn mode_lamps(s: ModeSet) -> u32
     ensures { result ≡ mode_lamps s }
 {
     match s {
         ModeSet::Off => 0,
         ModeSet::On(m) => {
-            let l = m.lateral;
-            let a = m.armed;
-            let v = m.vertical;
-            lateral_lamp(l) | armed_lamp(a) | vertical_lamp(v)
+            lateral_lamp(m.lateral) | armed_lamp(m.armed) | vertical_lamp(m.vertical)
         }
     }
 }

@@ -21,40 +21,19 @@ pub fn basic_modes() -> Modes
 fn is_nav(l: Lateral) -> bool
     ensures { result ≡ is_nav l }
 {
-    match l {
-        Lateral::Roll => false,
-        Lateral::Hdg => false,
-        Lateral::Nav => true,
-        Lateral::Lappr => false,
-        Lateral::Lga => false,
-    }
+    matches!(l, Lateral::Nav)
 }
 
 fn is_lappr(l: Lateral) -> bool
     ensures { result ≡ is_lappr l }
 {
-    match l {
-        Lateral::Roll => false,
-        Lateral::Hdg => false,
-        Lateral::Nav => false,
-        Lateral::Lappr => true,
-        Lateral::Lga => false,
-    }
+    matches!(l, Lateral::Lappr)
 }
 
 fn is_vappr(v: Vertical) -> bool
     ensures { result ≡ is_vappr v }
 {
-    match v {
-        Vertical::Pitch => false,
-        Vertical::Vs => false,
-        Vertical::Flc => false,
-        Vertical::Alt => false,
-        Vertical::AltselCapture => false,
-        Vertical::AltselTrack => false,
-        Vertical::Vappr => true,
-        Vertical::Vga => false,
-    }
+    matches!(v, Vertical::Vappr)
 }
 
 // Beside LAPPR engaged VAPPR is engaged, armed or cleared; beside another mode it is cleared.
@@ -77,13 +56,17 @@ fn armed_agrees(a: ArmedLateral, nav: bool, lappr: bool, vappr: bool, vappr_arme
 }
 
 // Whether an On set is coherent.
+#[tactic(auto, using(crate::proofs::Joins::coherent_agrees))]
 pub fn is_coherent(m: Modes) -> bool
     ensures { result ≡ coherent m }
 {
-    let l = m.lateral;
-    let a = m.armed;
-    let v = m.vertical;
-    armed_agrees(a, is_nav(l), is_lappr(l), is_vappr(v), m.vappr_armed)
+    armed_agrees(
+        m.armed,
+        is_nav(m.lateral),
+        is_lappr(m.lateral),
+        is_vappr(m.vertical),
+        m.vappr_armed,
+    )
 }
 
 // Whether a set is coherent; Off is.
@@ -97,71 +80,55 @@ pub fn set_is_coherent(s: ModeSet) -> bool
 }
 
 // Whether NAV is armed or engaged.
+#[tactic(auto, using(crate::proofs::Joins::nav_selected))]
 pub fn selects_nav(s: ModeSet) -> bool
     ensures { result ≡ selected_in NAV s }
 {
     match s {
         ModeSet::Off => false,
-        ModeSet::On(m) => {
-            let l = m.lateral;
-            let a = m.armed;
-            is_nav(l) | arms_nav(a)
-        }
+        ModeSet::On(m) => is_nav(m.lateral) | arms_nav(m.armed),
     }
 }
 
 // Whether LAPPR is armed or engaged.
+#[tactic(auto, using(crate::proofs::Joins::lappr_selected))]
 pub fn selects_lappr(s: ModeSet) -> bool
     ensures { result ≡ selected_in LAPPR s }
 {
     match s {
         ModeSet::Off => false,
-        ModeSet::On(m) => {
-            let l = m.lateral;
-            let a = m.armed;
-            is_lappr(l) | arms_lappr(a)
-        }
+        ModeSet::On(m) => is_lappr(m.lateral) | arms_lappr(m.armed),
     }
 }
 
+// Stays: each of the next four goes by its law in a pattern, and a pattern takes no parameter, so that
+// one function for all of them is not to be had.
 pub fn engages_hdg(s: ModeSet) -> bool
     ensures { result ≡ engaged_in HDG s }
 {
     let law = lateral_law(s);
-    match law {
-        2 => true,
-        _ => false,
-    }
+    matches!(law, 2)
 }
 
 pub fn engages_vs(s: ModeSet) -> bool
     ensures { result ≡ engaged_in VS s }
 {
     let law = vertical_law(s);
-    match law {
-        2 => true,
-        _ => false,
-    }
+    matches!(law, 2)
 }
 
 pub fn engages_flc(s: ModeSet) -> bool
     ensures { result ≡ engaged_in FLC s }
 {
     let law = vertical_law(s);
-    match law {
-        3 => true,
-        _ => false,
-    }
+    matches!(law, 3)
 }
 
 pub fn engages_alt(s: ModeSet) -> bool
     ensures { result ≡ engaged_in ALT s }
 {
     let law = vertical_law(s);
-    match law {
-        4 => true,
-        _ => false,
-    }
+    matches!(law, 4)
 }
 
 // Whether LAPPR, law 4, and VAPPR, law 7, are both engaged.
@@ -170,11 +137,5 @@ pub fn engages_approach(s: ModeSet) -> bool
 {
     let lateral = lateral_law(s);
     let vertical = vertical_law(s);
-    match lateral {
-        4 => match vertical {
-            7 => true,
-            _ => false,
-        },
-        _ => false,
-    }
+    matches!((lateral, vertical), (4, 7))
 }

@@ -18,13 +18,9 @@ pub fn from_pattern(bits: u64) -> f64
     f64::from_bits(bits)
 }
 
-// A number without its sign. It is negated at the wider type, where -2147483648 can be.
+// A number without its sign.
 pub fn magnitude(x: i32) -> u64
     ensures { result ≡ nat_abs x }
 {
-    if x < 0 {
-        (0 - x as i64) as u64
-    } else {
-        x as u64
-    }
+    u64::from(x.unsigned_abs())
 }

@@ -1,18 +1,17 @@
 -- Decimals: the digits before the point and behind it, read one after the other, are those of one number. Assumes nothing.
-use Rattle.std.proofs.Common.{◌≡◌, ℕ, suc, ◌+◌, ◌-◌, ◌*◌, ◌^◌, ◌<◌, ◌≤◌, Bool, true, false, cond, ◌&&◌, ltb, leb, List, [], ◌∷◌, ◌++◌, length, take, drop, sym, refl, ap, ◌∙◌, append-nil, add_assoc, mul_assoc, add-mul, lt_of_not-le, zero-add, zero-mul, le-mul_of_pos_right, add-one, arith, length-append, drop_of_length-le, take_all, pow-add, le-ltb, lt-ltb, le-leb, leb-false, leb-true}
+use Rattle.std.proofs.Common.{◌≡◌, ℕ, suc, ◌+◌, ◌-◌, ◌*◌, ◌^◌, ◌<◌, ◌≤◌, Bool, true, false, cond, ◌&&◌, ltb, leb, List, [], ◌∷◌, ◌++◌, length, take, drop, sym, refl, ap, ◌∙◌, append-nil, add_assoc, mul_assoc, add-mul, lt_of_not-le, zero-add, zero-mul, le-mul_of_pos_right, add-one, arith, length-append, drop_of_length-le, take_all, pow-add, le-ltb, lt-ltb, le-leb, leb-false, leb-true, Option, Some, None}
 use native.Mathlib.Decide.{dec_le}
 use borrow.Author.Tests.{lt-leb}
 use lib.Dec.{leb-suc-suc}
-use lib.Ieee.{binary64, round}
+use lib.Ieee.{Float, binary64, neg, round}
 use Rattle.words.specs.Words.{place_of, up_to}
 use Rattle.words.proofs.Runs.{to_the_end}
-use Rattle.numerals.specs.declared.answers.Value.{Value}
-use Rattle.numerals.specs.declared.answers.Value.TheVariants.{Is, Wrong}
+use Rattle.std.specs.Option.{option_map}
 use Rattle.numerals.specs.Digits.{digit_of, all_digits, is_numeral, numeral_value}
 use Rattle.numerals.specs.Values.{before, behind, is_decimal, decimal_as}
-use Rattle.numerals.specs.Private.{whole_decimal, fraction_of, pointed_of, negated_of}
-use Rattle.numerals.proofs.Reading.{if_picked, read_is}
-use Rattle.numerals.proofs.Numerals.{wide_is}
+use Rattle.numerals.specs.Private.{whole_decimal, fraction_of, pointed_of}
+use Rattle.numerals.proofs.Reading.{then_picked, map_picked, read_is}
+use Rattle.numerals.proofs.Numerals.{number_is}
 use Rattle.numerals.proofs.Division.{power_above, neg_round}
 
 -- ---- two runs of digits, one behind the other
@@ -39,35 +38,35 @@ abbrev top : ℕ
 top = 999999999999999
 
 -- the float nearest to x / 10 ^ k
-abbrev float : ℕ → ℕ → Value
-float x k = Is (round binary64 false x (10 ^ k))
+abbrev float : ℕ → ℕ → Option Float
+float x k = Some (round binary64 false x (10 ^ k))
 
 -- one to 15 digits w behind a point, where x is the number of all digits
 abbrev behind_point : List ℕ → ℕ → Bool
 behind_point w x = is_numeral 10 w && (leb (length w) 15 && leb x top)
 
-never : (t u : Bool) (x : Value) → Wrong ≡ cond (t && (u && false)) x Wrong
+never : (t u : Bool) (x : Option Float) → None ≡ cond (t && (u && false)) x None
 never true true x = refl
 never true false x = refl
 never false u x = refl
 
 fraction_is : (n : ℕ) (w : List ℕ) → n ≤ top →
-    fraction_of n w ≡ cond (behind_point w (n * 10 ^ length w + numeral_value 10 w)) (float (n * 10 ^ length w + numeral_value 10 w) (length w)) Wrong
+    fraction_of n w ≡ cond (behind_point w (n * 10 ^ length w + numeral_value 10 w)) (float (n * 10 ^ length w + numeral_value 10 w) (length w)) None
 unfolding fraction_of is_numeral
 fraction_is n [] h = refl
 fraction_is n (b ∷ w) h =
     let k = suc (length w) in
     let x = n * 10 ^ k + numeral_value 10 (b ∷ w) in
     rw (le-ltb k 1 (omega arith)) (elim (dec_le k 15) [
-      | yes l ↦ rw (le-ltb 15 k l, le-leb k 15 l, read_is 10 top n (b ∷ w) (omega arith) h) (if_picked (all_digits 10 (b ∷ w) && leb x top) x (λ y. float y k) Wrong)
+      | yes l ↦ rw (le-ltb 15 k l, le-leb k 15 l, read_is 10 top n (b ∷ w) (omega arith) h) (map_picked (all_digits 10 (b ∷ w) && leb x top) x (λ y. round binary64 false y (10 ^ k)))
       | no l ↦ rw (lt-ltb 15 k (lt_of_not-le l), lt-leb k 15 (lt_of_not-le l)) (never true (all_digits 10 (b ∷ w)) _)
     ])
 
 -- too large a number before the point makes too large a number of all digits
 pointed_is : (w v : List ℕ) →
-    pointed_of w v ≡ cond (is_numeral 10 w && behind_point v (numeral_value 10 (w ++ v))) (float (numeral_value 10 (w ++ v)) (length v)) Wrong
+    pointed_of w v ≡ cond (is_numeral 10 w && behind_point v (numeral_value 10 (w ++ v))) (float (numeral_value 10 (w ++ v)) (length v)) None
 pointed_is w v =
-    rw (wide_is top w, if_picked (is_numeral 10 w && leb n top) n (λ x. fraction_of x v) Wrong, joined 10 w v) (go (is_numeral 10 w) (leb n top) refl)
+    rw (number_is top w, then_picked (is_numeral 10 w && leb n top) n (λ x. fraction_of x v), joined 10 w v) (go (is_numeral 10 w) (leb n top) refl)
   where
     n : ℕ
     n = numeral_value 10 w
@@ -75,7 +74,7 @@ pointed_is w v =
     all : ℕ
     all = n * 10 ^ length v + numeral_value 10 v
 
-    go : (t u : Bool) → leb n top ≡ u → cond (t && u) (fraction_of n v) Wrong ≡ cond (t && behind_point v all) (float all (length v)) Wrong
+    go : (t u : Bool) → leb n top ≡ u → cond (t && u) (fraction_of n v) None ≡ cond (t && behind_point v all) (float all (length v)) None
     go false u e = refl
     go true true e = fraction_is n v (leb-true n top e)
     go true false e =
@@ -93,7 +92,7 @@ module _ (w : List ℕ) (p : ℕ) (e : p ≡ place_of 46 w) where
   unfolding decimal_as up_to
   no_point_is h =
       let l : length w ≤ suc p = omega arith in
-      rw (wide_is top w, if_picked (is_numeral 10 w && leb (numeral_value 10 w) top) (numeral_value 10 w) (λ x. float x 0) Wrong)
+      rw (number_is top w, map_picked (is_numeral 10 w && leb (numeral_value 10 w) top) (numeral_value 10 w) (λ x. round binary64 false x (10 ^ 0)))
       (rw (← e, take_all p w h, drop_of_length-le w {i = suc p} l, append-nil w, le-ltb p (length w) h, limit (numeral_value 10 w)))
 
   pub point_is : p < length w → pointed_of (take p w) (take (length w - (p + 1)) (drop (p + 1) w)) ≡ decimal_as false w
@@ -104,10 +103,14 @@ module _ (w : List ℕ) (p : ℕ) (e : p ≡ place_of 46 w) where
 
 -- ---- the sign
 
-pub negated_is : (w : List ℕ) → negated_of (decimal_as false w) ≡ decimal_as true w
+pub negated_is : (w : List ℕ) → option_map neg (decimal_as false w) ≡ decimal_as true w
 unfolding decimal_as
 negated_is w = go (is_decimal w) (numeral_value 10 (before w ++ behind w)) (10 ^ length (behind w))
   where
-    go : (t : Bool) (n p : ℕ) → negated_of (cond t (Is (round binary64 false n p)) Wrong) ≡ cond t (Is (round binary64 true n p)) Wrong
-    go true n p = ap Is (neg_round binary64 n p)
+    go : (t : Bool) (n p : ℕ) → option_map neg (cond t (Some (round binary64 false n p)) None) ≡ cond t (Some (round binary64 true n p)) None
+    go true n p = ap Some (neg_round binary64 n p)
     go false n p = refl
+
+pub none_signed : (s : Bool) (w : List ℕ) → None ≡ decimal_as false w → None ≡ decimal_as s w
+none_signed false w e = e
+none_signed true w e = ap (option_map neg) e ∙ negated_is w

@@ -3,14 +3,14 @@ use Rattle.std.proofs.Common.{refl}
 use lib.Ieee.{of_bits, round}
 use Rattle.words.specs.Words.{up_to}
 use Rattle.numerals.specs.Digits.{all_digits, numeral_value, is_numeral}
-use Rattle.numerals.specs.Numbers.{number_in, wide_in, clicks_in}
+use Rattle.numerals.specs.Numbers.{number_in, clicks_in}
 use Rattle.numerals.specs.Pairs.{are_pairs, pair_bytes}
 use Rattle.numerals.specs.Integers.{signed_as}
 use Rattle.numerals.specs.Values.{pattern_of, decimal_as}
 use Rattle.numerals.specs.Examples.{Numbers, Pairs, Integers, Values}
 
 pub numbers : Numbers
-unfolding all_digits numeral_value is_numeral number_in wide_in clicks_in
+unfolding all_digits numeral_value is_numeral number_in clicks_in
 numbers = record {
   zero_in_front = refl;
   above = refl;

@@ -1,5 +1,5 @@
 -- The laws of specs/Laws.antt: a decimal is below 10 ^ 15, so that its float does not overflow, and `round` gives the nearest float. Assumes nothing.
-use Rattle.std.proofs.Common.{◌≡◌, ℕ, ◌+◌, ◌-◌, ◌*◌, ◌/◌, ◌%◌, ◌^◌, ◌<◌, ◌≤◌, Bool, true, false, cond, not, ◌&&◌, ◌||◌, ltb, leb, List, ◌++◌, length, refl, subst, le_trans, lt_of_le_of_lt, mul-le-mul, div-le_self, arith, pow_mono, pow-add, shl_lt, ltb-true}
+use Rattle.std.proofs.Common.{◌≡◌, ℕ, ◌+◌, ◌-◌, ◌*◌, ◌/◌, ◌%◌, ◌^◌, ◌<◌, ◌≤◌, Bool, true, false, cond, not, ◌&&◌, ◌||◌, ltb, leb, List, ◌++◌, length, refl, subst, le_trans, lt_of_le_of_lt, mul-le-mul, div-le_self, arith, pow_mono, pow-add, shl_lt, ltb-true, Some, None}
 use Prim.Native.Nat.{compare}
 use native.Mathlib.Nat.{div-div-eq-div-mul}
 use lib.Pow.{pow-lt}
@@ -9,7 +9,6 @@ use lib.Ieee.Fits.{nearest-le, kept-lt}
 use lib.Ieee.Exact.{HasValue}
 use lib.Ieee.Order.{drop, kept}
 use lib.Ieee.Scale.{grid, overflow, round_val}
-use Rattle.numerals.specs.declared.answers.Value.TheVariants.{Is, Wrong}
 use Rattle.numerals.specs.Digits.{is_numeral, numeral_value}
 use Rattle.numerals.specs.Values.{has_point, before, behind, is_decimal, decimal_as}
 use Rattle.numerals.proofs.Division.{power_above, neg_round}
@@ -74,11 +73,11 @@ module _ (s : Bool) (w : List ℕ) where
       let a = not (has_point w) || is_numeral 10 (behind w) in
       ltb-true n (10 ^ 15) (both b c (both a (b && c) (both (is_numeral 10 (before w)) (a && (b && c)) h).1).1).1
 
-  decimal_nearest : (x : Float) → decimal_as s w ≡ Is x → IsNearestFloat x n p
+  decimal_nearest : (x : Float) → decimal_as s w ≡ Some x → IsNearestFloat x n p
   unfolding decimal_as
   decimal_nearest x e = go (is_decimal w) refl e
     where
-      go : (t : Bool) → is_decimal w ≡ t → cond t (Is (round binary64 s n p)) Wrong ≡ Is x → IsNearestFloat x n p
+      go : (t : Bool) → is_decimal w ≡ t → cond t (Some (round binary64 s n p)) None ≡ Some x → IsNearestFloat x n p
       go false h e = absurd (let z : ◌≡◌ {A = ℕ} 0 1 = cc in omega arith)
       go true h e =
           let f : round binary64 s n p ≡ x = cc in

@@ -1,5 +1,6 @@
 -- Pairs of hexadecimal digits: which words are pairs, how many bytes they make, and where the digits of each stand. Assumes nothing.
-use Rattle.std.proofs.Common.{◌≡◌, ℕ, zero, suc, ◌+◌, ◌*◌, ◌/◌, ◌%◌, ◌<◌, ◌≤◌, Bool, true, false, ◌&&◌, List, [], ◌∷◌, ◌++◌, length, get_or, take, drop, set, sym, refl, add-one, arith, drop_of_length-le, length-take-le, take_all, drop-cons, take-suc, eq-eqb, ne_eqb}
+use Rattle.std.proofs.Common.{◌≡◌, ℕ, zero, suc, ◌+◌, ◌*◌, ◌/◌, ◌%◌, ◌<◌, ◌≤◌, Bool, true, false, ◌&&◌, List, [], ◌∷◌, ◌++◌, length, get_or, take, drop, set, sym, refl, add-one, arith, drop_of_length-le, length-take-le, take_all, drop-cons, take-suc, eq-eqb, ne_eqb, min}
+use native.Mathlib.Decide.{dec_le}
 use lib.Seq.{set_at, append_snoc}
 use Rattle.numerals.specs.Digits.{all_digits, is_numeral}
 use Rattle.numerals.specs.Pairs.{are_pairs, pair_byte, pair_bytes, laid_over}
@@ -59,9 +60,15 @@ module _ (bytes target : List ℕ) (n : ℕ) where
       rw (add-one, drop-cons target n 0 k, set_at (take n bytes) (get_or target n 0) (drop (suc n) target) (get_or bytes n 0) n size)
       (rw (take-suc bytes n 0 h) (sym (append_snoc (take n bytes) (get_or bytes n 0) (drop (suc n) target))))
 
-  -- all of them, or as many as the target has
-  pub all_bytes : n ≡ length bytes → n ≤ length target → laid n bytes target ≡ laid_over bytes target
+  all_bytes : n ≡ length bytes → n ≤ length target → laid n bytes target ≡ laid_over bytes target
   all_bytes e h = rw (take_all n bytes (omega arith), take_all (length target) bytes (omega arith), e)
 
-  pub all_places : n ≡ length target → n ≤ length bytes → laid n bytes target ≡ laid_over bytes target
+  all_places : n ≡ length target → n ≤ length bytes → laid n bytes target ≡ laid_over bytes target
   all_places e h = rw (drop_of_length-le target {i = n} (omega arith), drop_of_length-le target {i = length bytes} (omega arith), e)
+
+  -- all of them, or as many as the target has
+  pub all_laid : n ≡ min (length target) (length bytes) → laid n bytes target ≡ laid_over bytes target
+  all_laid e = elim (dec_le (length bytes) (length target)) [
+    | yes h ↦ all_bytes (omega arith) (omega arith)
+    | no h ↦ all_places (omega arith) (omega arith)
+  ]

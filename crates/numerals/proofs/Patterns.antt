@@ -1,16 +1,14 @@
 -- The names of floats and their bit patterns. Assumes nothing.
-use Rattle.std.proofs.Common.{◌≡◌, ℕ, ◌^◌, ◌<◌, Bool, true, false, cond, ◌&&◌, ltb, List, [], ◌∷◌, length, take, drop, sym, refl, arith, length-drop, ltb-true, eq-eqb, ne_eqb, le-leb}
+use Rattle.std.proofs.Common.{◌≡◌, ℕ, ◌^◌, ◌<◌, Bool, true, false, cond, ◌&&◌, ltb, List, [], ◌∷◌, length, take, drop, refl, arith, ltb-true, eq-eqb, ne_eqb, le-leb, Option, Some, None}
 use native.Mathlib.Nat.{pow-succ', pow-zero}
 use lib.Arith.{digits_lt}
-use lib.Ieee.{nan, inf, binary64, div, neg, of_bits}
-use Rattle.numerals.specs.declared.answers.Wide.TheVariants.{Is as Are, Wrong as NoWide}
-use Rattle.numerals.specs.declared.answers.Value.{Value}
-use Rattle.numerals.specs.declared.answers.Value.TheVariants.{Is, Wrong}
+use lib.Ieee.{Float, nan, inf, binary64, div, neg, of_bits}
+use Rattle.std.specs.Option.{option_map}
 use Rattle.numerals.specs.Digits.{digit_of, all_digits, numeral_value}
 use Rattle.words.specs.Words.{same_bytes}
 use Rattle.numerals.specs.Values.{pattern_of}
-use Rattle.numerals.specs.Private.{if_digits, at_most, read_on}
-use Rattle.numerals.proofs.Reading.{if_picked, read_is, both}
+use Rattle.numerals.specs.Private.{at_most, read_on}
+use Rattle.numerals.proofs.Reading.{map_picked, read_is, both}
 use Rattle.numerals.proofs.Numerals.{from_zero}
 
 -- ---- what the code's quotients are, with 0.0 and 1.0 as it has them
@@ -37,10 +35,10 @@ number_below base (b ∷ w) h =
     rw (pow-succ' base (length w)) (digits_lt (ltb-true (digit_of b) base t.0) (number_below base w t.1))
 
 -- 16 hexadecimal digits are never too many for 64 bits
-hex : (v : List ℕ) → length v ≡ 16 → read_on 16 18446744073709551615 0 v ≡ cond (all_digits 16 v) (Are (numeral_value 16 v)) NoWide
+hex : (v : List ℕ) → length v ≡ 16 → read_on 16 18446744073709551615 0 v ≡ cond (all_digits 16 v) (Some (numeral_value 16 v)) None
 hex v h = rw (read_is 16 18446744073709551615 0 v (omega arith) (omega arith), from_zero 16 (numeral_value 16 v) v) (go (all_digits 16 v) refl)
   where
-    go : (t : Bool) → all_digits 16 v ≡ t → at_most 18446744073709551615 t (numeral_value 16 v) ≡ cond t (Are (numeral_value 16 v)) NoWide
+    go : (t : Bool) → all_digits 16 v ≡ t → at_most 18446744073709551615 t (numeral_value 16 v) ≡ cond t (Some (numeral_value 16 v)) None
     go false e = refl
     go true e =
         let l : numeral_value 16 v < 16 ^ 16 = rw h at (number_below 16 v e) in
@@ -48,17 +46,19 @@ hex v h = rw (read_is 16 18446744073709551615 0 v (omega arith) (omega arith), f
 
 -- ---- the pattern
 
-pub other_length : (w : List ℕ) → (length w ≡ 18 → ⊥) → Wrong ≡ pattern_of w
-unfolding pattern_of
-other_length w h = rw (ne_eqb (length (drop 2 w)) 16 (λ e. h (omega (arith, length-drop 2 w)))) (never (same_bytes (take 2 w) (48 ∷ 120 ∷ [])) _)
-  where
-    never : (t : Bool) (x : Value) → Wrong ≡ cond (t && false) x Wrong
-    never true x = refl
-    never false x = refl
+never : (t : Bool) (x : Option Float) → None ≡ cond (t && false) x None
+never true x = refl
+never false x = refl
 
-pub pattern_is : (w : List ℕ) → length w ≡ 18 → same_bytes (take 2 w) (48 ∷ 120 ∷ []) ≡ true →
-    pattern_of w ≡ if_digits (read_on 16 18446744073709551615 0 (drop 2 w)) (λ n. Is (of_bits binary64 n)) Wrong
+pub no_prefix : (w : List ℕ) → same_bytes (take 2 w) (48 ∷ 120 ∷ []) ≡ false → None ≡ pattern_of w
 unfolding pattern_of
-pattern_is w h e =
-    let l : length (drop 2 w) ≡ 16 = omega (arith, length-drop 2 w) in
-    rw (e, eq-eqb (length (drop 2 w)) 16 l, hex (drop 2 w) l) (sym (if_picked (all_digits 16 (drop 2 w)) _ (λ n. Is (of_bits binary64 n)) Wrong))
+no_prefix w h = rw h
+
+pub other_length : (w : List ℕ) → (length (drop 2 w) ≡ 16 → ⊥) → None ≡ pattern_of w
+unfolding pattern_of
+other_length w h = rw (ne_eqb (length (drop 2 w)) 16 h) (never (same_bytes (take 2 w) (48 ∷ 120 ∷ [])) _)
+
+pub pattern_is : (w : List ℕ) → same_bytes (take 2 w) (48 ∷ 120 ∷ []) ≡ true → length (drop 2 w) ≡ 16 →
+    option_map (of_bits binary64) (read_on 16 18446744073709551615 0 (drop 2 w)) ≡ pattern_of w
+unfolding pattern_of
+pattern_is w e l = rw (e, eq-eqb (length (drop 2 w)) 16 l, hex (drop 2 w) l) (map_picked (all_digits 16 (drop 2 w)) _ (of_bits binary64))

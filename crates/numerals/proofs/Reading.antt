@@ -1,18 +1,22 @@
 -- Digits read one after the other make the number that they stand for. Assumes nothing.
-use Rattle.std.proofs.Common.{◌≡◌, ℕ, suc, ◌+◌, ◌*◌, ◌^◌, ◌<◌, ◌≤◌, Bool, true, false, cond, ◌&&◌, ltb, leb, List, [], ◌∷◌, length, sym, refl, ap, ◌∙◌, add-zero, add_assoc, mul_assoc, mul_comm, add-mul, pow-suc, mul-one, le-mul_of_pos_right, arith, le-leb, leb-false, leb-true}
+use Rattle.std.proofs.Common.{◌≡◌, ℕ, suc, ◌+◌, ◌*◌, ◌^◌, ◌<◌, ◌≤◌, Bool, true, false, cond, ◌&&◌, ltb, leb, List, [], ◌∷◌, length, sym, refl, ap, ◌∙◌, add-zero, add_assoc, mul_assoc, mul_comm, add-mul, pow-suc, mul-one, le-mul_of_pos_right, arith, le-leb, leb-false, leb-true, Option, Some, None}
 use mathlib.Core.Bool.{and-eq-true_iff}
 use native.Mathlib.Nat.{pow-zero, pow-le-pow_right}
 use borrow.Author.Tests.{lt-leb}
-use Rattle.numerals.specs.declared.answers.Wide.TheVariants.{Is as Are, Wrong}
+use Rattle.std.specs.Option.{option_and_then, option_map}
 use Rattle.numerals.specs.Digits.{digit_of, all_digits, numeral_value}
-use Rattle.numerals.specs.Private.{if_digits, at_most, read_on}
+use Rattle.numerals.specs.Private.{at_most, read_on}
 
 -- ---- all digits
 
 -- what f makes of a number that a test picks
-pub if_picked : {X : Type 0} (t : Bool) (n : ℕ) (f : ℕ → X) (x : X) → if_digits (cond t (Are n) Wrong) f x ≡ cond t (f n) x
-if_picked true n f x = refl
-if_picked false n f x = refl
+pub then_picked : {X : Type 0} (t : Bool) (n : ℕ) (f : ℕ → Option X) → option_and_then f (cond t (Some n) None) ≡ cond t (f n) None
+then_picked true n f = refl
+then_picked false n f = refl
+
+pub map_picked : {X : Type 0} (t : Bool) (n : ℕ) (f : ℕ → X) → option_map f (cond t (Some n) None) ≡ cond t (Some (f n)) None
+map_picked true n f = refl
+map_picked false n f = refl
 
 pub pow_above : (base n : ℕ) → 0 < base → 0 < base ^ n
 pow_above base n B = let l : base ^ 0 ≤ base ^ n = pow-le-pow_right B (omega arith) in let z = pow-zero base in omega arith
@@ -25,7 +29,7 @@ regroup base v d n r =
     ∙ sym (add_assoc (v * base * base ^ n) (d * base ^ n) r)
     ∙ ap (λ (p : ℕ). p + r) (sym (add-mul (v * base) d (base ^ n)))
 
-over : (most : ℕ) (t : Bool) (x : ℕ) → most < x → Wrong ≡ at_most most t x
+over : (most : ℕ) (t : Bool) (x : ℕ) → most < x → None ≡ at_most most t x
 over most false x h = refl
 over most true x h = rw (lt-leb x most h)
 
@@ -41,7 +45,7 @@ read_is base most v (b ∷ w) B h =
     all n = n * base ^ length w + numeral_value base w
 
     go : (n : ℕ) (t u : Bool) → leb n most ≡ u → (n ≤ most → read_on base most n w ≡ at_most most (all_digits base w) (all n)) →
-        if_digits (cond (t && u) (Are n) Wrong) (λ m. read_on base most m w) Wrong ≡ at_most most (t && all_digits base w) (all n)
+        option_and_then (λ m. read_on base most m w) (cond (t && u) (Some n) None) ≡ at_most most (t && all_digits base w) (all n)
     go n false u e f = refl
     go n true true e f = f (leb-true n most e)
     go n true false e f =
@@ -54,12 +58,12 @@ read_is base most v (b ∷ w) B h =
 pub both : (t u : Bool) → (t && u) ≡ true → (t ≡ true) × (u ≡ true)
 both t u e = (and-eq-true_iff t u).0 e
 
-pub at_most_tells : (most : ℕ) (t : Bool) (x n : ℕ) → at_most most t x ≡ Are n → n ≤ most
+pub at_most_tells : (most : ℕ) (t : Bool) (x n : ℕ) → at_most most t x ≡ Some n → n ≤ most
 at_most_tells most t x n e = go (t && leb x most) refl e
   where
-    go : (u : Bool) → (t && leb x most) ≡ u → cond u (Are x) Wrong ≡ Are n → n ≤ most
+    go : (u : Bool) → (t && leb x most) ≡ u → cond u (Some x) None ≡ Some n → n ≤ most
     go true f e = let l = leb-true x most (both t (leb x most) f).1 in let g : x ≡ n = cc in omega arith
     go false f e = absurd (let z : ◌≡◌ {A = ℕ} 0 1 = cc in omega arith)
 
-pub read_fits : (base most v n : ℕ) (w : List ℕ) → 0 < base → v ≤ most → read_on base most v w ≡ Are n → n ≤ most
+pub read_fits : (base most v n : ℕ) (w : List ℕ) → 0 < base → v ≤ most → read_on base most v w ≡ Some n → n ≤ most
 read_fits base most v n w B h e = at_most_tells most (all_digits base w) (v * base ^ length w + numeral_value base w) n (rw (read_is base most v w B h) at e)

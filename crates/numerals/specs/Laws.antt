@@ -1,8 +1,7 @@
 -- What a reader of specs/Values.antt may rely on: `value_laws` of proofs/Laws.antt proves it.
-use Rattle.std.specs.Prelude.{◌≡◌, ℕ, ◌+◌, ◌-◌, ◌*◌, ◌^◌, ◌≤◌, Bool, T, List, ◌++◌, length, ℤ, Float}
+use Rattle.std.specs.Prelude.{◌≡◌, ℕ, ◌+◌, ◌-◌, ◌*◌, ◌^◌, ◌≤◌, Bool, T, List, ◌++◌, length, ℤ, Float, Some}
 use Rattle.std.specs.Float.{nan, inf, fin, binary64}
 use Rattle.std.specs.Float.Ieee.{up, down, fits}
-use Rattle.numerals.specs.declared.answers.Value.TheVariants.{Is}
 use Rattle.numerals.specs.Digits.{numeral_value}
 use Rattle.numerals.specs.Values.{before, behind, decimal_as}
 
@@ -19,5 +18,5 @@ IsNearestFloat (fin s m e) n p =
 
 pub record ValueLaws : Type 0 where
   -- a decimal's float is finite, and of all floats none is nearer to the number of all digits over 10 for each digit behind the point
-  pub decimal_nearest : (s : Bool) (w : List ℕ) (x : Float) → decimal_as s w ≡ Is x →
+  pub decimal_nearest : (s : Bool) (w : List ℕ) (x : Float) → decimal_as s w ≡ Some x →
       IsNearestFloat x (numeral_value 10 (before w ++ behind w)) (10 ^ length (behind w))

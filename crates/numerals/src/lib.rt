@@ -3,20 +3,17 @@
 // is read as what, specs/Examples gives words, and specs/Private has what only the private functions promise.
 #![tactic(auto)]
 
-pub mod answers;
-
-ghost use Rattle.std.specs.Prelude.{◌≡◌, ◌/◌, ◌^◌, ◌<◌, ◌≤◌, true, false, length, pos, neg_ℤ, slice_index};
+ghost use Rattle.std.specs.Prelude.{◌≡◌, ◌/◌, ◌^◌, ◌<◌, ◌≤◌, false, length, slice_index};
 ghost use Rattle.std.specs.Float.{binary64};
 ghost use Rattle.std.specs.Float.Ieee.{round};
+ghost use Rattle.rounding.specs.Whole.{signed_of};
 ghost use Rattle.numerals.specs.Digits.{digit_of, all_digits};
-ghost use Rattle.numerals.specs.Numbers.{number_in, wide_in, backward, clicks_in};
+ghost use Rattle.numerals.specs.Numbers.{number_in, clicks_in};
 ghost use Rattle.numerals.specs.Pairs.{are_pairs, pair_byte, pair_bytes, laid_over};
-ghost use Rattle.numerals.specs.Integers.{signed_as, signed_in};
+ghost use Rattle.numerals.specs.Integers.{signed_in};
 ghost use Rattle.numerals.specs.Words.{has_minus, unsigned};
-ghost use Rattle.numerals.specs.Values.{name_of, pattern_of, decimal_as, first_of, value_in};
-ghost use Rattle.numerals.specs.Private.{step, read_on, whole_decimal, fraction_of, pointed_of, negated_of};
-
-use answers::{Number, Signed, Value, Wide};
+ghost use Rattle.numerals.specs.Values.{name_of, pattern_of, decimal_as, value_in};
+ghost use Rattle.numerals.specs.Private.{step, read_on, whole_decimal, fraction_of, pointed_of};
 
 // The largest number of 15 digits.
 const LARGEST: u64 = 999_999_999_999_999;
@@ -34,80 +31,55 @@ fn digit(b: u8) -> u64
 }
 
 // The number v with one digit more behind it, of at most `most`.
-fn one_more(base: u64, v: u64, b: u8, most: u64) -> Wide
+fn one_more(base: u64, v: u64, b: u8, most: u64) -> Option<u64>
     requires { 0 < base }
     ensures { result ≡ step base most v b }
 {
     let d = digit(b);
     if base <= d {
-        return Wide::Wrong;
+        return None;
     }
-    if most / base < v {
-        return Wide::Wrong;
-    }
-    let tens = v * base;
-    if most - tens < d {
-        return Wide::Wrong;
-    }
-    Wide::Is(tens + d)
+    let next = v.checked_mul(base)?.checked_add(d)?;
+    (next <= most).then_some(next)
 }
 
 // The number `start` with the digits w behind it, of at most `most`.
-fn digits_from(base: u64, start: u64, w: &[u8], most: u64) -> Wide
+fn digits_from(base: u64, start: u64, w: &[u8], most: u64) -> Option<u64>
     requires { 0 < base }
     ensures { result ≡ read_on base most start w.now }
 {
     let mut v = start;
-    let mut i = 0;
-    while i < w.len() {
-        let next = one_more(base, v, w[i], most);
-        let Wide::Is(n) = next else {
-            return Wide::Wrong;
-        };
-        v = n;
-        i += 1;
+    for b in w {
+        v = one_more(base, v, *b, most)?;
     }
-    Wide::Is(v)
+    Some(v)
 }
 
 // A number of at most `most`, which 64 bits hold: one or more digits and nothing else.
 #[tactic(auto, using(crate::proofs::Numerals::empty_is, crate::proofs::Numerals::digits_are))]
-pub fn wide_number(w: &[u8], most: u64) -> Wide
-    ensures { result ≡ wide_in most w.now }
+pub fn wide_number(w: &[u8], most: u64) -> Option<u64>
+    ensures { result ≡ number_in most w.now }
 {
-    if w.len() < 1 {
-        return Wide::Wrong;
+    if w.is_empty() {
+        return None;
     }
     digits_from(10, 0, w, most)
 }
 
 // A number of at most `most`, which 32 bits hold.
-#[tactic(auto, using(crate::proofs::Numerals::wide_fits, crate::proofs::Numerals::number_is))]
-pub fn number(w: &[u8], most: u32) -> Number
+#[tactic(auto, using(crate::proofs::Numerals::number_fits))]
+pub fn number(w: &[u8], most: u32) -> Option<u32>
     ensures { result ≡ number_in most w.now }
 {
-    let found = wide_number(w, most as u64);
-    match found {
-        Wide::Is(n) => {
-            let small = n as u32;
-            Number::Is(small)
-        }
-        Wide::Wrong => Number::Wrong,
-    }
+    let n = wide_number(w, u64::from(most))?;
+    Some(n as u32)
 }
 
 // Whether every byte is a hexadecimal digit.
 fn all_hexadecimal(w: &[u8]) -> bool
     ensures { result ≡ all_digits 16 w.now }
 {
-    let mut i = 0;
-    while i < w.len() {
-        if 16 <= digit(w[i]) {
-            return false;
-        }
-        i += 1;
-    }
-    true
+    w.iter().all(|b| digit(*b) < 16)
 }
 
 // Whether a word is one or more pairs of hexadecimal digits and nothing else.
@@ -115,10 +87,7 @@ fn all_hexadecimal(w: &[u8]) -> bool
 pub fn are_pairs(w: &[u8]) -> bool
     ensures { result ≡ are_pairs w.now }
 {
-    if w.len() == 0 {
-        return false;
-    }
-    if w.len() % 2 == 1 {
+    if w.is_empty() || w.len() % 2 == 1 {
         return false;
     }
     all_hexadecimal(w)
@@ -145,13 +114,8 @@ fn pair_at(w: &[u8], i: usize) -> u8
 pub fn put_pairs(w: &[u8], target: &mut [u8])
     ensures { target.new ≡ laid_over (pair_bytes w.now) target.old }
 {
-    let mut i = 0;
-    while i < target.len() {
-        if w.len() / 2 <= i {
-            return;
-        }
+    for i in 0..target.len().min(w.len() / 2) {
         target[i] = pair_at(w, i);
-        i += 1;
     }
 }
 
@@ -159,10 +123,7 @@ pub fn put_pairs(w: &[u8], target: &mut [u8])
 fn has_minus(w: &[u8]) -> bool
     ensures { result ≡ has_minus w.now }
 {
-    if w.len() == 0 {
-        return false;
-    }
-    w[0] == b'-'
+    !w.is_empty() && w[0] == b'-'
 }
 
 // A word without its '-'.
@@ -172,120 +133,63 @@ fn unsigned(w: &[u8]) -> &[u8]
     if has_minus(w) { &w[1..] } else { w }
 }
 
-// -n, at the wider type, where 2147483648 can be negated.
-fn minus(n: u32) -> i32
-    requires { n ≤ 2147483648 }
-    ensures { result ≡ neg_ℤ (pos n) }
+// A number with its sign, at the wider type, where 2147483648 can be negated.
+fn with_sign(minus: bool, n: u32) -> i64
+    ensures { result ≡ signed_of minus n }
 {
-    (0 - n as i64) as i32
+    let size = i64::from(n);
+    if minus { -size } else { size }
 }
 
-// Digits behind a '-'.
-fn negative(w: &[u8]) -> Signed
-    ensures { result ≡ signed_as true w.now }
-{
-    let found = number(w, 2147483648);
-    match found {
-        Number::Is(n) => Signed::Is(minus(n)),
-        Number::Wrong => Signed::Wrong,
-    }
-}
-
-// Digits without a sign.
-fn positive(w: &[u8]) -> Signed
-    ensures { result ≡ signed_as false w.now }
-{
-    let found = number(w, 2147483647);
-    match found {
-        Number::Is(n) => {
-            let small = n as i32;
-            Signed::Is(small)
-        }
-        Number::Wrong => Signed::Wrong,
-    }
-}
-
-// A number with or without a '-' in front, from -2147483648 to 2147483647.
-pub fn signed(w: &[u8]) -> Signed
+// A signed number.
+pub fn signed(w: &[u8]) -> Option<i32>
     ensures { result ≡ signed_in w.now }
 {
-    let size = unsigned(w);
-    if has_minus(w) {
-        negative(size)
-    } else {
-        positive(size)
-    }
-}
-
-// So many clicks back, modulo 256.
-fn clicks_back(w: &[u8]) -> Number
-    ensures { result ≡ backward (number_in 128 w.now) }
-{
-    let found = number(w, 128);
-    match found {
-        Number::Is(n) => Number::Is((256 - n % 256) % 256),
-        Number::Wrong => Number::Wrong,
-    }
+    let size = number(unsigned(w), 2147483648)?;
+    i32::try_from(with_sign(has_minus(w), size)).ok()
 }
 
 // The clicks of a knob, from -128 to 127, modulo 256: what they add to its count.
-pub fn clicks(w: &[u8]) -> Number
+#[tactic(auto, using(crate::proofs::Numerals::number_fits), unfolding(crate::specs::Numbers::clicks_in))]
+pub fn clicks(w: &[u8]) -> Option<u8>
     ensures { result ≡ clicks_in w.now }
 {
     let size = unsigned(w);
     if has_minus(w) {
-        clicks_back(size)
-    } else {
-        number(size, 127)
+        let n = number(size, 128)?;
+        return Some(((256 - n % 256) % 256) as u8);
     }
+    let n = number(size, 127)?;
+    Some(n as u8)
 }
 
 // The floats that have a name.
-fn name(w: &[u8]) -> Value
+#[tactic(auto, using(crate::proofs::Patterns::no_number, crate::proofs::Patterns::infinity, crate::proofs::Patterns::minus_infinity))]
+fn name(w: &[u8]) -> Option<f64>
     ensures { result ≡ name_of w.now }
 {
-    if check::same(w, b"nan") {
-        return Value::Is(0.0 / 0.0);
+    if w == b"nan".as_slice() {
+        return Some(0.0 / 0.0);
     }
-    if check::same(w, b"inf") {
-        return Value::Is(1.0 / 0.0);
+    if w == b"inf".as_slice() {
+        return Some(1.0 / 0.0);
     }
-    if check::same(w, b"-inf") {
-        return Value::Is(-1.0 / 0.0);
+    if w == b"-inf".as_slice() {
+        return Some(-1.0 / 0.0);
     }
-    Value::Wrong
+    None
 }
 
 // A float by its bit pattern: 16 digits of base 16 behind '0x'.
-fn pattern(w: &[u8]) -> Value
+fn pattern(w: &[u8]) -> Option<f64>
     ensures { result ≡ pattern_of w.now }
 {
-    if w.len() != 18 {
-        return Value::Wrong;
+    let digits = w.strip_prefix(b"0x")?;
+    if digits.len() != 16 {
+        return None;
     }
-    if !check::same(&w[..2], b"0x") {
-        return Value::Wrong;
-    }
-    let found = digits_from(16, 0, &w[2..], 0xffff_ffff_ffff_ffff);
-    match found {
-        Wide::Is(n) => Value::Is(number_forms::from_pattern(n)),
-        Wide::Wrong => Value::Wrong,
-    }
-}
-
-// 10 to the power k.
-#[tactic(auto, using(crate::proofs::Division::power_below))]
-fn power_of_ten(k: usize) -> u64
-    requires { k ≤ 15 }
-    ensures { result ≡ 10 ^ k }
-{
-    let mut p: u64 = 1;
-    let mut i: usize = 0;
-    while i < k {
-        p = p * 10;
-        i += 1;
-    }
-    p
+    let bits = digits_from(16, 0, digits, u64::MAX)?;
+    Some(number_forms::from_pattern(bits))
 }
 
 // The float nearest to n / 10^k. Both are below 2^53 and so exact, and a division rounds once.
@@ -295,99 +199,69 @@ fn quotient(n: u64, k: usize) -> f64
     ensures { result ≡ round binary64 false n (10 ^ k) }
 {
     let above = std::num::nearest_u64_to_f64(n);
-    let below = std::num::nearest_u64_to_f64(power_of_ten(k));
+    let below = std::num::nearest_u64_to_f64(10u64.pow(k as u32));
     above / below
 }
 
 // A decimal without a point.
-#[tactic(auto, using(crate::proofs::Numerals::wide_fits))]
-fn whole(w: &[u8]) -> Value
+#[tactic(auto, using(crate::proofs::Numerals::number_fits))]
+fn whole(w: &[u8]) -> Option<f64>
     ensures { result ≡ whole_decimal w.now }
 {
-    let found = wide_number(w, LARGEST);
-    match found {
-        Wide::Is(n) => Value::Is(quotient(n, 0)),
-        Wide::Wrong => Value::Wrong,
-    }
+    let n = wide_number(w, LARGEST)?;
+    Some(quotient(n, 0))
 }
 
 // The number n with the digits w behind its point.
 #[tactic(auto, using(crate::proofs::Reading::read_fits), unfolding(crate::specs::Private::fraction_of))]
-fn fraction(n: u64, w: &[u8]) -> Value
+fn fraction(n: u64, w: &[u8]) -> Option<f64>
     requires { n ≤ 999999999999999 }
     ensures { result ≡ fraction_of n w.now }
 {
     let k = w.len();
     if k < 1 {
-        return Value::Wrong;
+        return None;
     }
     if 15 < k {
-        return Value::Wrong;
+        return None;
     }
-    let found = digits_from(10, n, w, LARGEST);
-    match found {
-        Wide::Is(m) => Value::Is(quotient(m, k)),
-        Wide::Wrong => Value::Wrong,
-    }
+    let m = digits_from(10, n, w, LARGEST)?;
+    Some(quotient(m, k))
 }
 
 // A decimal with w before its point and v behind it.
-#[tactic(auto, using(crate::proofs::Numerals::wide_fits))]
-fn pointed(w: &[u8], v: &[u8]) -> Value
+#[tactic(auto, using(crate::proofs::Numerals::number_fits))]
+fn pointed(w: &[u8], v: &[u8]) -> Option<f64>
     ensures { result ≡ pointed_of w.now v.now }
 {
-    let found = wide_number(w, LARGEST);
-    match found {
-        Wide::Is(n) => fraction(n, v),
-        Wide::Wrong => Value::Wrong,
-    }
+    let n = wide_number(w, LARGEST)?;
+    fraction(n, v)
 }
 
 // A decimal without a sign.
 #[tactic(auto, using(crate::proofs::Decimals::no_point_is, crate::proofs::Decimals::point_is))]
-fn decimal(w: &[u8]) -> Value
+fn decimal(w: &[u8]) -> Option<f64>
     ensures { result ≡ decimal_as false w.now }
 {
     let p = words::place(w, b'.');
     if w.len() <= p {
         return whole(w);
     }
-    let next = p + 1;
-    pointed(&w[..p], &w[next..])
-}
-
-// The value with its sign changed.
-fn negated(v: Value) -> Value
-    ensures { result ≡ negated_of v }
-{
-    match v {
-        Value::Is(x) => Value::Is(-x),
-        Value::Wrong => Value::Wrong,
-    }
+    pointed(&w[..p], &w[p + 1..])
 }
 
 // A decimal with or without a '-' in front.
-fn signed_decimal(w: &[u8]) -> Value
+#[tactic(auto, using(crate::proofs::Decimals::negated_is))]
+fn signed_decimal(w: &[u8]) -> Option<f64>
     ensures { result ≡ decimal_as (has_minus w.now) (unsigned w.now) }
 {
-    let size = decimal(unsigned(w));
-    if has_minus(w) { negated(size) } else { size }
-}
-
-// The first of two values that is one.
-fn either(a: Value, b: Value) -> Value
-    ensures { result ≡ first_of a b }
-{
-    match a {
-        Value::Is(x) => Value::Is(x),
-        Value::Wrong => b,
-    }
+    let size = decimal(unsigned(w))?;
+    Some(if has_minus(w) { -size } else { size })
 }
 
 // A float: its name, its bit pattern or a decimal.
-pub fn value(w: &[u8]) -> Value
+pub fn value(w: &[u8]) -> Option<f64>
     ensures { result ≡ value_in w.now }
 {
-    let other = either(pattern(w), signed_decimal(w));
-    either(name(w), other)
+    name(w).or(pattern(w).or(signed_decimal(w)))
 }

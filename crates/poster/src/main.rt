@@ -25,28 +25,20 @@ fn vertical_in(number: u64) -> u64
     number / 16 % 16
 }
 
-// A number, and what parts it from the next.
-fn print_number(rt: &impl Print, n: u64, after: &[u8]) -> io::Result<()> {
-    rt.print(n)?;
-    rt.write_all(after)
-}
-
 // The line of a code, from its number in the list.
 fn print_line(rt: &impl Print, code: usize, number: u64) -> io::Result<()>
     requires { number ≡ number_at code }
 {
-    print_number(rt, code as u64, b" ")?;
-    print_number(rt, lateral_in(number), b" ")?;
-    print_number(rt, armed_sum_in(number), b" ")?;
-    print_number(rt, vertical_in(number), b"\n")
+    let lateral = lateral_in(number);
+    let armed_sum = armed_sum_in(number);
+    let vertical = vertical_in(number);
+    println!(rt; "{code} {lateral} {armed_sum} {vertical}")
 }
 
 fn main(rt: HostRuntime) -> io::Result<()> {
     let numbers = codes::set_numbers();
-    let mut code = 0;
-    while code < 108 {
-        print_line(&rt, code, numbers[code] as u64)?;
-        code += 1;
+    for (code, number) in numbers.iter().enumerate() {
+        print_line(&rt, code, u64::from(*number))?;
     }
     Ok(())
 }

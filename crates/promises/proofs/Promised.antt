@@ -26,11 +26,13 @@ use Rattle.scripts.proofs.Lines.{lines}
 use Rattle.scripts.proofs.Laws.{line_laws}
 use Rattle.sessions.proofs.Laws.{session_laws}
 use Rattle.promises.specs.Promises.{Promises}
+use Rattle.promises.proofs.Answers.{answers}
 use Rattle.promises.proofs.Sends.{same_as_sent}
 
 pub promises : Promises
 promises = record {
   delivered = delivered;
+  answers = answers;
   claims = claims;
   reached = reached;
   independent_laws = independent_laws;

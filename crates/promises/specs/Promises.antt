@@ -16,7 +16,7 @@ use Rattle.bench.specs.Sound.{sound}
 use Rattle.codes.specs.Laws.{CodeLaws}
 use Rattle.frames.specs.Laws.{FrameLaws, FrameExamples}
 use Rattle.steps.specs.Laws.{EntryLaws}
-use Rattle.calls.specs.Calls.{Call}
+use Rattle.calls.specs.declared.call.Call.{Call}
 use Rattle.soundness.specs.Kept.{KeepsSound, LawsInRange}
 use Rattle.soundness.specs.Lowest.{NamesLowest}
 use Rattle.soundness.specs.Feed.{FeedLaws}
@@ -32,11 +32,14 @@ use Rattle.numerals.specs.Examples.{Numbers, Pairs, Integers, Values}
 use Rattle.scripts.specs.Lines.{Lines}
 use Rattle.scripts.specs.Laws.{LineLaws}
 use Rattle.sessions.specs.Laws.{SessionLaws}
+use Rattle.promises.specs.Answers.{Answers}
 use Rattle.promises.specs.Sends.{SameAsSent}
 
 pub record Promises : Type 2 where
   -- the entries meet their contracts, any list of calls from any start meets demand 3, and the bench sheet holds
   pub delivered : Delivered
+  -- what the contracts of the picker, of frames and of sessions say of an answer settles it
+  pub answers : Answers
   -- the same claim of the rules alone, from any start, from any sound bench and from an unsound one
   pub claims : Claims
   -- the claim over lists is not empty

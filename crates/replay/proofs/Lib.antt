@@ -1,2 +1,5 @@
 pub mod Coding
+pub mod Outcomes
+pub mod Codes
+pub mod Told
 pub mod Delivered

@@ -1,15 +1,15 @@
 -- Signed numbers at 32 and 64 bits: sums, bounds and remainders. Assumes nothing.
-use mathlib.Core.Path.{◌≡◌, refl, sym, ◌∙◌, subst}
+use mathlib.Core.Path.{◌≡◌, refl, ◌∙◌}
 use mathlib.Core.Bool.{Bool, true, false, cond, true≢false}
-use Prim.Native.Nat.{ℕ, zero, suc, ◌+◌, ◌-◌, ◌*◌, ◌%◌, ◌^◌, ◌≤◌, ◌<◌}
+use Prim.Native.Nat.{ℕ, zero, suc, ◌+◌, ◌-◌, ◌%◌, ◌^◌, ◌≤◌, ◌<◌}
 use native.Mathlib.Omega.{arith}
 use borrow.Author.Tests.{ltb-true, ltb-false, leb-false}
-use lib.Dec.{T, ltb, leb, leb→le}
-use lib.IntN.{ℤ, pos, negsuc, neg_ℤ, sub_ℕ, ◌+ℤ◌, ◌-ℤ◌, ◌*ℤ◌}
+use lib.Dec.{ltb}
+use lib.IntN.{ℤ, pos, negsuc, sub_ℕ, ◌+ℤ◌, ◌-ℤ◌}
 use lib.Signed.{mag, le_z}
 use mir.Syntax.{Width, w32, w64}
 use mir.Val.{SFits, to_z, of_z}
-use mir.ValLaws.{to_z-of_z, to_z_pos}
+use mir.ValLaws.{to_z-of_z}
 use Rattle.rotation.specs.Rotation.{mod_of, rotation_of}
 
 pub up : {z : ℤ} → SFits w32 z → SFits w64 z
@@ -19,18 +19,8 @@ pub same32 : (z : ℤ) → SFits w32 z → to_z w32 (of_z w32 z) ≡ z
 same32 z h = to_z-of_z w32 z h
 
 -- a number that is known by another name
-pub fits_as : {w : Width} {z v : ℤ} → z ≡ v → SFits w v → SFits w z
-fits_as {w} e h = subst (SFits w) (sym e) h
-
 pub as_bits : {w : Width} {z v : ℤ} → z ≡ v → SFits w v → to_z w (of_z w z) ≡ v
 as_bits {w} {z} {v} e h = rw e (to_z-of_z w v h)
-
--- from 32 bits to 64
-pub wide : (z : ℤ) → SFits w32 z → to_z w64 (of_z w64 (to_z w32 (of_z w32 z))) ≡ z
-wide z h = as_bits (same32 z h) (up h)
-
-pub pair32 : {x y : ℤ} → SFits w32 x → SFits w32 y → to_z w32 (of_z w32 x) +ℤ to_z w32 (of_z w32 y) ≡ x +ℤ y
-pair32 {x} {y} h k = rw (same32 x h, same32 y k)
 
 -- ---- a difference and a sum are no larger than the parts allow
 
@@ -59,7 +49,7 @@ between m (negsuc a) (negsuc z) b h k p q = let l = leb-false a z h in omega ari
 
 -- what `wide_sum` ensures speaks of the arguments' bits
 pub passed_sum : {s x y : ℤ} → s ≡ to_z w32 (of_z w32 x) +ℤ to_z w32 (of_z w32 y) → SFits w32 x → SFits w32 y → s ≡ x +ℤ y
-passed_sum {s} {x} {y} e h k = e ∙ pair32 h k
+passed_sum {s} {x} {y} e h k = e ∙ rw (same32 x h, same32 y k)
 
 -- ---- a difference of naturals, by cases
 
@@ -79,35 +69,9 @@ turned (suc o) new h k =
     (λ l. sub_case (λ (z : ℤ). mod_of z 256 ≡ (new + 384 - suc o) % 256) 128 (suc (suc o - suc new)) (λ m. omega arith) (λ m. omega arith))
     (λ l. omega arith)
 
--- a number without a sign and an integer, neither above m, added at 32 bits
-module _ (m : ℕ) (t : T (leb m 65536)) (n : ℕ) (h : n < m) (z : ℤ) (k : T (leb (mag z) m)) where
-  as_held : to_z w32 n ≡ pos n
-  as_held = let l = leb→le m 65536 t in to_z_pos w32 n (omega arith)
-
-  pub small_sum_fits : SFits w32 (to_z w32 n +ℤ z)
-  small_sum_fits =
-      let l = leb→le m 65536 t in
-      let d = leb→le (mag z) m k in
-      let s = sum_mag (suc m) (pos n) z (omega arith) (omega arith) in
-      rw as_held (record { sfits = omega arith })
-
-  pub small_sum_is : to_z w32 (of_z w32 (to_z w32 n +ℤ z)) ≡ pos n +ℤ z
-  small_sum_is = same32 (to_z w32 n +ℤ z) small_sum_fits ∙ rw as_held
-
 -- ---- for callers
 
-pub as32 : {z v : ℤ} → z ≡ v → SFits w32 v → to_z w32 (of_z w32 z) ≡ v
-as32 e h = as_bits e h
-
--- a rotation is from -128 to 127, and a hundred of it fits 32 bits
+-- a rotation is from -128 to 127
 pub rotation_mag : (old new : ℕ) → old < 256 → new < 256 → mag (rotation_of old new) < 128
 rotation_mag old new h k =
     rw (turned old new h k) (sub_case (λ (z : ℤ). mag z < 128) ((new + 384 - old) % 256) 128 (λ l. omega arith) (λ l. omega arith))
-
-pub hundred_fits : (z : ℤ) → mag z < 128 → SFits w32 (z *ℤ pos 100)
-hundred_fits (pos a) h = record { sfits = omega arith }
-hundred_fits (negsuc a) h = record { sfits = go (suc a * 100) (omega arith) }
-  where
-    go : (n : ℕ) → n ≤ 12800 → mag (neg_ℤ (pos n)) < 2 ^ 31
-    go zero h = omega arith
-    go (suc n) h = omega arith

@@ -2,7 +2,7 @@
 use mathlib.Core.Path.{◌≡◌, sym}
 use mathlib.Core.Bool.{Bool, true, false, ◌||◌}
 use Prim.Native.Nat.{ℕ, zero, suc, ◌+◌, ◌*◌, ◌/◌, ◌%◌, ◌^◌, ◌<◌}
-use native.Mathlib.Nat.{pow-succ', mod-lt, div-one, mod-one, mul_comm, div-div-eq-div-mul, div-eq_of_lt, mod-eq_of_lt}
+use native.Mathlib.Nat.{pow-succ', mod-lt, mul_comm, div-div-eq-div-mul, div-eq_of_lt, mod-eq_of_lt}
 use native.Mathlib.Numerals.{add-one}
 use native.Mathlib.Omega.{arith}
 use lib.Dec.{eqb}
@@ -34,9 +34,6 @@ pub record Dropped (kept : ℕ) (half rest : Bool) (m p : ℕ) : Type 0 where
   pub above : 0 < p
   pub whole : kept ≡ m / p
   pub remainder : Lies half rest (m % p) p
-
-pub dropped_none : (m : ℕ) → Dropped m false false m (2 ^ 0)
-dropped_none m = record { above = omega arith; whole = sym (div-one m); remainder = mod-one m }
 
 -- one digit more
 pub dropped_more : {k : ℕ} {h s : Bool} {m : ℕ} (n : ℕ) → Dropped k h s m (2 ^ n) → Dropped (k / 2) (eqb (k % 2) 1) (h || s) m (2 ^ (n + 1))

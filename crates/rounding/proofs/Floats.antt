@@ -13,7 +13,8 @@ use lib.Ieee.Bits.{of_bits-to_bits}
 use lib.Ieee.Compare.{differs_from_itself}
 use lib.Ieee.Exact.{HasValue, odd_sign}
 use lib.Ieee.Nearest.{closest, closest_same, nearest-ge}
-use Rattle.rounding.specs.declared.Whole.TheVariants.{NotFinite, Beyond, Value}
+use Rattle.std.specs.Prelude.{Ok, Err}
+use Rattle.rounding.specs.declared.NoWhole.TheVariants.{NotFinite, Beyond}
 use Rattle.rounding.specs.Whole.{signed_of, in_answer, whole_of}
 use Rattle.rounding.proofs.Digits.{closest_zero}
 
@@ -28,12 +29,12 @@ of_value (fin t m e) s a c h v =
 
 -- ---- what the fields are read as
 
-either : (b s : Bool) → whole_of (cond b (inf s) nan) ≡ NotFinite
+either : (b s : Bool) → whole_of (cond b (inf s) nan) ≡ Err NotFinite
 unfolding whole_of
 either true s = refl
 either false s = refl
 
-ones_fields : (s : Bool) (x t : ℕ) → x ≡ 2047 → whole_of (of_fields binary64 s x t) ≡ NotFinite
+ones_fields : (s : Bool) (x t : ℕ) → x ≡ 2047 → whole_of (of_fields binary64 s x t) ≡ Err NotFinite
 unfolding of_fields
 ones_fields s zero t h = absurd (let z : 0 ≡ 2047 = h in omega arith)
 ones_fields s (suc x) t h = rw (eq-eqb (suc x) 2047 h) (either (eqb t 0) s)
@@ -80,7 +81,7 @@ middle (suc x) t h k =
     closest_same (m * 2 ^ (suc x - 1)) (2 ^ 1074) m (2 ^ (1075 - suc x)) (pow_pos 1074) (pow_pos (1075 - suc x))
     (mul_assoc m (2 ^ (suc x - 1)) (2 ^ (1075 - suc x)) ∙ ap (λ (k : ℕ). m * k) (sym (pow-add 2 (suc x - 1) (1075 - suc x)) ∙ ap (λ (k : ℕ). 2 ^ k) e))
 
-zero_signed : (s : Bool) → in_answer (signed_of s 0) ≡ Value (signed_of false 0)
+zero_signed : (s : Bool) → in_answer (signed_of s 0) ≡ Ok (signed_of false 0)
 zero_signed true = refl
 zero_signed false = refl
 
@@ -106,18 +107,18 @@ module _ (b : ℕ) where
   value : (field ≡ 2047 → ⊥) → whole_of (of_bits binary64 b) ≡ in_answer (signed_of sign (closest (lead field digits * 2 ^ (field - 1)) (2 ^ 1074)))
   value h = ap whole_of read ∙ of_value _ sign (lead field digits * 2 ^ (field - 1)) (2 ^ 1074) (pow_pos 1074) (fields_value sign field digits h)
 
-  pub bits_ones : field ≡ 2047 → NotFinite ≡ whole_of (of_bits binary64 b)
+  pub bits_ones : field ≡ 2047 → Err NotFinite ≡ whole_of (of_bits binary64 b)
   bits_ones h = sym (ap whole_of read ∙ ones_fields sign field digits h)
 
-  pub bits_large : (field ≡ 2047 → ⊥) → 1075 ≤ field → Beyond ≡ whole_of (of_bits binary64 b)
+  pub bits_large : (field ≡ 2047 → ⊥) → 1075 ≤ field → Err Beyond ≡ whole_of (of_bits binary64 b)
   bits_large h k = sym (value h ∙ beyond sign (closest (lead field digits * 2 ^ (field - 1)) (2 ^ 1074)) (large field digits k))
     where
-      beyond : (s : Bool) (q : ℕ) → 4503599627370496 ≤ q → in_answer (signed_of s q) ≡ Beyond
+      beyond : (s : Bool) (q : ℕ) → 4503599627370496 ≤ q → in_answer (signed_of s q) ≡ Err Beyond
       beyond false q h = rw (lt-leb q 2147483647 (omega arith))
       beyond true zero h = absurd (omega arith)
       beyond true (suc q) h = rw (lt-leb q 2147483647 (omega arith))
 
-  pub bits_small : field < 1022 → Value (signed_of false 0) ≡ whole_of (of_bits binary64 b)
+  pub bits_small : field < 1022 → Ok (signed_of false 0) ≡ whole_of (of_bits binary64 b)
   bits_small h = sym (value (other field 1022 h (omega arith)) ∙ ap (λ (q : ℕ). in_answer (signed_of sign q)) (small field digits (mod-lt b (pow_pos 52)) h) ∙ zero_signed sign)
 
   pub bits_middle : 1022 ≤ field → field < 1075 → in_answer (signed_of sign (closest (4503599627370496 + digits) (2 ^ (1075 - field)))) ≡ whole_of (of_bits binary64 b)
@@ -131,7 +132,7 @@ no_nan nan h = absurd (true≢false h)
 no_nan (inf s) h = tt
 no_nan (fin s m e) h = tt
 
-pub nan_whole : (x : Float) → ne x x ≡ true → NotFinite ≡ whole_of x
+pub nan_whole : (x : Float) → ne x x ≡ true → Err NotFinite ≡ whole_of x
 unfolding whole_of
 nan_whole x h = ap whole_of (sym (differs_from_itself x (subst T (sym h) tt)))
 

@@ -13,7 +13,8 @@ use lib.Ieee.Fits.{down_pos}
 use lib.Ieee.Nearest.{closest_mono}
 use mir.Syntax.{w32}
 use mir.Val.{SFits}
-use Rattle.rounding.specs.declared.Whole.TheVariants.{Beyond, Value}
+use Rattle.std.specs.Prelude.{Ok, Err}
+use Rattle.rounding.specs.declared.NoWhole.TheVariants.{Beyond}
 use Rattle.rounding.specs.Whole.{magnitude_of, signed_of, is_i32, in_answer, whole_of}
 use Rattle.rounding.specs.Fraction.{IsNearest}
 use Rattle.rounding.specs.Laws.{WholeLaws}
@@ -36,30 +37,30 @@ pub whole_exact : (s : Bool) (m : ℕ) (e : ℤ) (n : ℕ) → m * up e ≡ n * 
 unfolding whole_of
 whole_exact s m e n h = ap (λ (q : ℕ). in_answer (signed_of s q)) (magnitude_exact m e n h)
 
-pub whole_integer : (s : Bool) (m : ℕ) (e z : ℤ) → signed_of s (m * up e) ≡ z *ℤ pos (down e) → is_i32 z ≡ true → whole_of (fin s m e) ≡ Value z
+pub whole_integer : (s : Bool) (m : ℕ) (e z : ℤ) → signed_of s (m * up e) ≡ z *ℤ pos (down e) → is_i32 z ≡ true → whole_of (fin s m e) ≡ Ok z
 whole_integer s m e z h f =
     let n : m * up e ≡ nat_abs z * down e = sym (abs_signed s (m * up e)) ∙ ap nat_abs h ∙ abs_mul z (down e) in
-    let v : in_answer z ≡ Value z = rw f in
+    let v : in_answer z ≡ Ok z = rw f in
     whole_exact s m e (nat_abs z) n ∙ ap in_answer (sign_of s (m * up e) (down e) z (down_pos e) h n) ∙ v
 
-pub whole_zero : (s : Bool) (e : ℤ) → whole_of (fin s 0 e) ≡ Value (pos 0)
+pub whole_zero : (s : Bool) (e : ℤ) → whole_of (fin s 0 e) ≡ Ok (pos 0)
 whole_zero s e = whole_exact s 0 e 0 (zero-mul (up e) ∙ sym (zero-mul (down e))) ∙ same s
   where
-    same : (s : Bool) → in_answer (signed_of s 0) ≡ Value (pos 0)
+    same : (s : Bool) → in_answer (signed_of s 0) ≡ Ok (pos 0)
     same false = refl
     same true = refl
 
-pub whole_in : (x : Float) (z : ℤ) → whole_of x ≡ Value z → is_i32 z ≡ true
+pub whole_in : (x : Float) (z : ℤ) → whole_of x ≡ Ok z → is_i32 z ≡ true
 unfolding whole_of
 whole_in nan z h = absurd (let c : ◌≡◌ {A = ℕ} 0 1 = cc in omega arith)
 whole_in (inf s) z h = absurd (let c : ◌≡◌ {A = ℕ} 0 1 = cc in omega arith)
 whole_in (fin s m e) z h = go (signed_of s (magnitude_of m e)) (is_i32 (signed_of s (magnitude_of m e))) refl h
   where
-    go : (w : ℤ) (t : Bool) → is_i32 w ≡ t → cond t (Value w) Beyond ≡ Value z → is_i32 z ≡ true
+    go : (w : ℤ) (t : Bool) → is_i32 w ≡ t → cond t (Ok w) (Err Beyond) ≡ Ok z → is_i32 z ≡ true
     go w true e h = let f : w ≡ z = cc in rw (← f) e
     go w false e h = absurd (let c : ◌≡◌ {A = ℕ} 0 1 = cc in omega arith)
 
-pub whole_fits : (x : Float) (z : ℤ) → whole_of x ≡ Value z → SFits w32 z
+pub whole_fits : (x : Float) (z : ℤ) → whole_of x ≡ Ok z → SFits w32 z
 whole_fits x z h = i32_fits z (whole_in x z h)
 
 mag_mono : (m n : ℕ) (e d : ℤ) → m * up e * down d ≤ n * up d * down e → magnitude_of m e ≤ magnitude_of n d

@@ -1,12 +1,12 @@
 -- The whole value of a float: the integer nearest to its exact value; of two that are equally near, the even one. Document 01, 'Readings'.
 -- `specs/Laws.antt` states that these definitions say so.
-use Rattle.std.specs.Prelude.{ℕ, ◌*◌, Bool, true, false, ◌&&◌, cond, ℤ, pos, negsuc, neg_ℤ, Float}
+use Rattle.std.specs.Prelude.{ℕ, ◌*◌, Bool, true, false, ◌&&◌, cond, ℤ, pos, negsuc, neg_ℤ, Float, Result, Ok, Err}
 use Rattle.std.specs.Int.Signed.{le_z}
 use Rattle.std.specs.Float.{nan, inf, fin}
 use Rattle.std.specs.Float.Ieee.{up, down}
 use Rattle.std.specs.Float.Ieee.Nearest.{closest}
-use Rattle.rounding.specs.declared.Whole.{Whole}
-use Rattle.rounding.specs.declared.Whole.TheVariants.{NotFinite, Beyond, Value}
+use Rattle.rounding.specs.declared.NoWhole.{NoWhole}
+use Rattle.rounding.specs.declared.NoWhole.TheVariants.{NotFinite, Beyond}
 
 -- The natural number nearest to m * 2 ^ e, of two such the even one (document 01, 'Readings'). 2 ^ e is the fraction up e / down e.
 abbrev pub magnitude_of : ℕ → ℤ → ℕ
@@ -22,11 +22,11 @@ abbrev pub is_i32 : ℤ → Bool
 is_i32 z = le_z (negsuc 2147483647) z && le_z z (pos 2147483647)
 
 -- The answer for the whole value z: z itself, or that it is outside the answer's integers, and so outside every range of 'Readings'.
-abbrev pub in_answer : ℤ → Whole
-in_answer z = cond (is_i32 z) (Value z) Beyond
+abbrev pub in_answer : ℤ → Result ℤ NoWhole
+in_answer z = cond (is_i32 z) (Ok z) (Err Beyond)
 
 -- The whole value of a float (document 01, 'Readings'). A finite float is the number m * 2 ^ e, negative where s is true; infinity and NaN have no whole value.
-unfoldable pub whole_of : Float → Whole
-whole_of nan = NotFinite
-whole_of (inf s) = NotFinite
+unfoldable pub whole_of : Float → Result ℤ NoWhole
+whole_of nan = Err NotFinite
+whole_of (inf s) = Err NotFinite
 whole_of (fin s m e) = in_answer (signed_of s (magnitude_of m e))

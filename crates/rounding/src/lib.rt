@@ -7,14 +7,13 @@ ghost use Rattle.std.specs.Float.{binary64};
 ghost use Rattle.std.specs.Float.Ieee.Nearest.{closest};
 ghost use Rattle.rounding.specs.Whole.{signed_of, in_answer, whole_of};
 
-// What a float rounds to.
+// Why a float has no whole value.
 #[derive(Clone, Copy)]
-pub enum Whole {
+pub enum NoWhole {
     // An infinity, or a NaN.
     NotFinite,
     // Finite, and the whole value is outside -2147483648 to 2147483647.
     Beyond,
-    Value(i32),
 }
 
 // The whole number nearest to digits / 2^places, of two such the even one.
@@ -30,12 +29,10 @@ fn nearest(digits: u64, places: u64) -> u64
     let mut kept = digits;
     let mut half = false;
     let mut rest = false;
-    let mut dropped = 0;
-    while dropped < places {
+    for _ in 0..places {
         rest = half | rest;
         half = kept % 2 == 1;
         kept = kept / 2;
-        dropped += 1;
     }
     if half {
         if rest { kept + 1 } else { kept + kept % 2 }
@@ -54,30 +51,26 @@ fn signed(negative: bool, magnitude: u64) -> i64
 }
 
 // The answer for a whole value, which i32 may not hold.
-fn in_answer(value: i64) -> Whole
+fn in_answer(value: i64) -> Result<i32, NoWhole>
     ensures { result ≡ in_answer value }
 {
-    if (-2147483648 <= value) & (value <= 2147483647) {
-        Whole::Value(value as i32)
-    } else {
-        Whole::Beyond
-    }
+    i32::try_from(value).map_err(|_| NoWhole::Beyond)
 }
 
 // The whole value of the float that a bit pattern is read as.
-#[tactic(auto, using(crate::proofs::Floats::bits_small))]
-fn whole_of_bits(bits: u64) -> Whole
+#[tactic(auto, using(crate::proofs::Floats::bits_ones, crate::proofs::Floats::bits_large, crate::proofs::Floats::bits_small))]
+fn whole_of_bits(bits: u64) -> Result<i32, NoWhole>
     ensures { result ≡ whole_of (of_bits binary64 bits) }
 {
     let exponent = bits % 0x8000_0000_0000_0000 / 0x10_0000_0000_0000;
     if exponent == 2047 {
-        return Whole::NotFinite;
+        return Err(NoWhole::NotFinite);
     }
     if 1075 <= exponent {
-        return Whole::Beyond;
+        return Err(NoWhole::Beyond);
     }
     if exponent < 1022 {
-        return Whole::Value(0);
+        return Ok(0);
     }
     let digits = 0x10_0000_0000_0000 + bits % 0x10_0000_0000_0000;
     let magnitude = nearest(digits, 1075 - exponent);
@@ -86,11 +79,12 @@ fn whole_of_bits(bits: u64) -> Whole
 
 // The whole value of x. A NaN has no bit pattern of its own, so it is told first, by its being
 // unequal to itself.
-pub fn whole_value(x: f64) -> Whole
+#[tactic(auto, using(crate::proofs::Floats::nan_whole, crate::proofs::Floats::no_nan, crate::proofs::Floats::float_whole))]
+pub fn whole_value(x: f64) -> Result<i32, NoWhole>
     ensures { result ≡ whole_of x }
 {
     if x != x {
-        Whole::NotFinite
+        Err(NoWhole::NotFinite)
     } else {
         whole_of_bits(f64::to_bits(x))
     }

@@ -1,23 +1,17 @@
--- Switches and signals are events, so their numbers are below 21. Assumes nothing.
-use mathlib.Core.Path.{◌≡◌, refl}
-use mathlib.Core.Bool.{Bool, true, false, ◌&&◌, ◌||◌, and-eq-true_iff, false≢true}
-use Prim.Native.Nat.{ℕ, ◌<◌}
-use native.Mathlib.Omega.{arith}
-use borrow.Author.Tests.{leb-true}
-use lib.Dec.{leb}
-use Rattle.scripts.specs.Commands.{is_switch, is_signal}
+-- Events go by numbers below 21. Assumes nothing.
+use Rattle.std.proofs.Common.{◌≡◌, ℕ, ◌<◌, Bool, true, false, cond, ltb, List, Some, None, ltb-true, arith, refl}
+use Rattle.words.specs.Words.{lookup_of}
+use Rattle.scripts.specs.Commands.{named, event_named}
 
--- a number below the end of a part of a range
-below : (p : Bool) (n high : ℕ) → p && leb n high ≡ true → high < 21 → n < 21
-below p n high e h = omega (arith, leb-true n high ((and-eq-true_iff p (leb n high)).0 e).1)
-
-pub signal_below : (n : ℕ) → is_signal n ≡ true → n < 21
-signal_below n e = go (leb 2 n && leb n 3) (leb 8 n && leb n 13) refl refl e
+-- a name goes by a number below how many there are
+pub named_within : (names : List ℕ) (total : ℕ) (w : List ℕ) (n : ℕ) → named names total w ≡ Some n → n < total
+unfolding named
+named_within names total w n e = go (ltb (lookup_of w names total) total) refl e
   where
-    go : (p q : Bool) → leb 2 n && leb n 3 ≡ p → leb 8 n && leb n 13 ≡ q → p || q ≡ true → n < 21
-    go true q f g e = below (leb 2 n) n 3 f (omega arith)
-    go false true f g e = below (leb 8 n) n 13 g (omega arith)
-    go false false f g e = absurd (false≢true e)
+    go : (t : Bool) → ltb (lookup_of w names total) total ≡ t → cond t (Some (lookup_of w names total)) None ≡ Some n → n < total
+    go true f e = let l = ltb-true (lookup_of w names total) total f in let g : lookup_of w names total ≡ n = cc in omega arith
+    go false f e = absurd (let z : ◌≡◌ {A = ℕ} 0 1 = cc in omega arith)
 
-pub switch_below : (n : ℕ) → is_switch n ≡ true → n < 21
-switch_below n e = omega (arith, leb-true n 20 ((and-eq-true_iff (leb n 20) _).0 e).0)
+pub named_below : (text : List ℕ) (n : ℕ) → event_named text ≡ Some n → n < 21
+unfolding event_named
+named_below text n e = named_within _ 21 _ n e

@@ -1,206 +1,263 @@
 -- The laws of lines: one test of a command and its text, which every case of the table of commands passes. Assumes nothing.
-use mathlib.Core.Path.{◌≡◌, refl}
-use mathlib.Core.Bool.{Bool, true, false, cond}
-use mathlib.Core.List.{List}
-use Prim.Native.Nat.{ℕ, ◌^◌}
-use borrow.Author.Tests.{leb-true, le-leb}
-use lib.Dec.{leb, eqb, ltb}
-use lib.IntN.{ℤ}
-use Rattle.modes.specs.declared.ModeSet.{ModeSet}
+use Rattle.std.proofs.Common.{◌≡◌, ℕ, ◌^◌, Bool, true, false, cond, eqb, leb, List, [], ◌∷◌, ℤ, Option, Some, None, Ok, Err, refl, leb-true, le-leb}
+use Prim.Native.String.{String}
+use Rattle.std.specs.Prelude.{Result}
+use Rattle.std.specs.Bool.{⊤}
 use Rattle.bench.specs.declared.Reading.{Reading}
-use Rattle.words.specs.Words.{word_of, lookup_of}
-use Rattle.numerals.specs.declared.answers.Number.{Number}
-use Rattle.numerals.specs.declared.answers.Wide.{Wide}
-use Rattle.numerals.specs.declared.answers.Signed.{Signed}
+use Rattle.words.specs.Words.{word_of, same_bytes}
 use Rattle.numerals.specs.Numbers.{clicks_in}
 use Rattle.numerals.specs.Integers.{signed_in}
 use Rattle.numerals.specs.Pairs.{are_pairs}
 use Rattle.numerals.proofs.Numerals.{number_fits}
 use Rattle.scripts.specs.declared.Command.{Command}
-use Rattle.scripts.specs.declared.places.Named.{Named}
-use Rattle.scripts.specs.declared.damage.Given.{Given}
-use Rattle.scripts.specs.Commands.{too_many, no_command, no_word, no_side, no_knob_number, no_count, no_knob, no_clicks, no_switch, no_signal, no_watch, no_kind, no_damage, no_pf, no_reference, no_signed, no_set, no_length, no_start, no_pairs, no_flag, no_speed}
-use Rattle.scripts.specs.Commands.{command_names, watch_names, damage_names, part_names, absent, ends_at, if_number, if_reading, if_set, if_signed, if_start}
-use Rattle.scripts.specs.Commands.{number_at, side_at, knob_at, kind_at, reading_at, start_at, figure_at, set_by, is_switch, is_signal, event_named}
-use Rattle.scripts.specs.Commands.{event_of, with_side, turn_by, turn_of, clicks_by, clicks_of, event_if, watch_by, start_of, area_of_length, poke_by, poke_of, write_by, write_of, read_of}
-use Rattle.scripts.specs.Commands.{damage_pf, damage_independent, damage_set, damage_number, damage_part, damage_whole, damage_by, command_by, command_in, text_of, command_of, pairs_of}
+use Rattle.scripts.specs.declared.Mistake.{Mistake}
+use Rattle.scripts.specs.declared.Mistake.TheVariants.{NoCommand, TooManyWords, NoWord, NoSide, NoKnobNumber, NoCount, NoKnob, NoClicks, NoSwitch, NoSignal, NoWatch, NoKind}
+use Rattle.scripts.specs.declared.Mistake.TheVariants.{NoDamage, NoPf, NoReference, NoSigned, NoSet, NoLength, NoStart, NoPairs, NoFlag, NoSpeed}
+use Rattle.scripts.specs.Commands.{Asked, bytes, beside, watches, kind_numbers, parts, damages, commands, absent, ends_at, if_some, if_reading}
+use Rattle.scripts.specs.Commands.{number_at, side_at, knob_at, reading_at, start_at, figure_at, set_by, is_switch, is_signal, event_named}
+use Rattle.scripts.specs.Commands.{event_of, with_side, turn_of, clicks_of, event_if, watch_of, start_of, area_of_length, poke_of, write_of, read_of}
+use Rattle.scripts.specs.Commands.{damage_pf, damage_independent, damage_set, damage_number, damage_box, damage_whole, damage_reading, reference, damage_of, command_by, command_in, text_of, command_of, pairs_of}
 use Rattle.scripts.specs.Laws.{LineLaws}
 
 -- an area of at most 2,048 bytes, and a poke with pairs in word 2
-abbrev meets : List ℕ → Command → Bool
-meets text Command.Blank = true
-meets text (Command.Wrong why) = true
-meets text (Command.Event word) = true
-meets text (Command.Send side) = true
-meets text (Command.Refresh side) = true
-meets text (Command.Display side) = true
-meets text (Command.Pick side) = true
-meets text (Command.Turn knob count) = true
-meets text (Command.Knob knob clicks) = true
-meets text (Command.Reading r) = true
-meets text Command.PowerOn = true
-meets text (Command.Start speed) = true
-meets text Command.Bench = true
-meets text Command.Panel = true
-meets text Command.Help = true
-meets text (Command.Watch on) = true
-meets text (Command.DamagePf n) = true
-meets text (Command.DamageReading r) = true
-meets text (Command.DamageSet n set) = true
-meets text (Command.DamageReference n place x) = true
-meets text (Command.DamageWhole kind x) = true
-meets text (Command.DamageIndependent on) = true
-meets text (Command.Area n) = leb n 2048
-meets text (Command.Poke start) = are_pairs (word_of text 2)
-meets text (Command.Write side start) = true
-meets text (Command.Read start) = true
-meets text Command.Bytes = true
+abbrev allows : List ℕ → Command → Bool
+allows text Command.Blank = true
+allows text (Command.Event word) = true
+allows text (Command.Send side) = true
+allows text (Command.Refresh side) = true
+allows text (Command.Display side) = true
+allows text (Command.Pick side) = true
+allows text (Command.Turn knob count) = true
+allows text (Command.Knob knob clicks) = true
+allows text (Command.Reading r) = true
+allows text Command.PowerOn = true
+allows text (Command.Start speed) = true
+allows text Command.Bench = true
+allows text Command.Panel = true
+allows text Command.Help = true
+allows text (Command.Watch on) = true
+allows text (Command.DamagePf n) = true
+allows text (Command.DamageReading r) = true
+allows text (Command.DamageSet n set) = true
+allows text (Command.DamageReference n place x) = true
+allows text (Command.DamageWhole kind x) = true
+allows text (Command.DamageIndependent on) = true
+allows text (Command.Area n) = leb n 2048
+allows text (Command.Poke start) = are_pairs (word_of text 2)
+allows text (Command.Write side start) = true
+allows text (Command.Read start) = true
+allows text Command.Bytes = true
 
-record Meets (text : List ℕ) (c : Command) : Type 0 where
-  holds : meets text c ≡ true
+-- what is wrong with a line stays within them
+abbrev meets : List ℕ → Asked → Bool
+meets text (Ok c) = allows text c
+meets text (Err mistake) = true
+
+record Meets (text : List ℕ) (a : Asked) : Type 0 where
+  holds : meets text a ≡ true
+
+-- each entry of a table meets them
+abbrev Each : {T : Type 0} → List ℕ → (T → Asked) → List (String × T) → Type 0
+Each text ask [] = ⊤
+Each text ask (e ∷ es) = Meets text (ask e.1) × Each text ask es
 
 module _ {text : List ℕ} where
-  plain : (c : Command) → meets text c ≡ true → Meets text c
-  plain c h = record { holds = h }
-
-  wrong : (why : ℕ) → Meets text (Command.Wrong why)
-  wrong why = plain (Command.Wrong why) refl
+  wrong : (mistake : Mistake) → Meets text (Err mistake)
+  wrong mistake = record { holds = refl }
 
   -- ---- the forms that the table is made of
 
-  either : (t : Bool) {x y : Command} → (t ≡ true → Meets text x) → Meets text y → Meets text (cond t x y)
+  either : (t : Bool) {x y : Asked} → (t ≡ true → Meets text x) → Meets text y → Meets text (cond t x y)
   either true h k = h refl
   either false h k = k
 
-  ends : (n : ℕ) {asked : Command} → Meets text asked → Meets text (ends_at text n asked)
+  ends : (n : ℕ) (c : Command) → allows text c ≡ true → Meets text (ends_at text n c)
   unfolding ends_at
-  ends n h = either (absent text n) (λ t. h) (wrong too_many)
+  ends n c h = either (absent text n) (λ t. record { holds = h }) (wrong TooManyWords)
 
-  number : (x : Number) {ask : ℕ → Command} (why : ℕ) → ((n : ℕ) → x ≡ Number.Is n → Meets text (ask n)) → Meets text (if_number x ask (Command.Wrong why))
-  number (Number.Is n) why h = h n refl
-  number Number.Wrong why h = wrong why
+  given : {T : Type 0} (x : Option T) {ask : T → Asked} (mistake : Mistake) → ((v : T) → x ≡ Some v → Meets text (ask v)) → Meets text (if_some x ask mistake)
+  given (Some v) mistake h = h v refl
+  given None mistake h = wrong mistake
 
-  start : (x : Wide) {ask : ℕ → Command} → ((n : ℕ) → Meets text (ask n)) → Meets text (if_start x ask)
-  start (Wide.Is n) h = h n
-  start Wide.Wrong h = wrong no_start
+  table : {T : Type 0} (ask : T → Asked) (es : List (String × T)) (mistake : Mistake) (w : List ℕ) → Each text ask es → Meets text (if_some (beside es w) ask mistake)
+  table ask [] mistake w h = wrong mistake
+  table ask (e ∷ es) mistake w h = go (same_bytes w (bytes e.0)) (table ask es mistake w h.1)
+    where
+      go : (t : Bool) → Meets text (if_some (beside es w) ask mistake) → Meets text (if_some (cond t (Some e.1) (beside es w)) ask mistake)
+      go true k = h.0
+      go false k = k
 
-  reading : (x : Named) {ask : Reading → Command} → ((r : Reading) → Meets text (ask r)) → Meets text (if_reading x ask)
-  reading (Named.Is r) h = h r
-  reading (Named.Wrong why) h = wrong why
-
-  set : (x : Given) {ask : ModeSet → Command} → ((s : ModeSet) → Meets text (ask s)) → Meets text (if_set x ask)
-  set (Given.Is s) h = h s
-  set Given.Wrong h = wrong no_set
-
-  signed : (x : Signed) {ask : ℤ → Command} (why : ℕ) → ((z : ℤ) → Meets text (ask z)) → Meets text (if_signed x ask (Command.Wrong why))
-  signed (Signed.Is z) why h = h z
-  signed Signed.Wrong why h = wrong why
+  reading : (x : Result Reading Mistake) {ask : Reading → Asked} → ((r : Reading) → Meets text (ask r)) → Meets text (if_reading x ask)
+  reading (Ok r) h = h r
+  reading (Err mistake) h = wrong mistake
 
 -- ---- the commands
 
 module _ (text : List ℕ) where
   event : Meets text (event_of text)
   unfolding event_of
-  event = number (number_at text 1 4294967295) no_word (λ n e. ends 2 (plain (Command.Event n) refl))
+  event = given (number_at text 1 4294967295) NoWord (λ n e. ends 2 (Command.Event n) refl)
 
-  of_side : (command : ℕ) → Meets text (with_side command text)
+  of_side : (ask : ℕ → Command) → ((n : ℕ) → allows text (ask n) ≡ true) → Meets text (with_side ask text)
   unfolding with_side
-  of_side command =
-      number (side_at text) no_side
-      (λ n e. ends 2
-      (either (eqb command 1) (λ t. plain (Command.Send n) refl)
-      (either (eqb command 2) (λ t. plain (Command.Refresh n) refl)
-      (either (eqb command 3) (λ t. plain (Command.Display n) refl)
-      (plain (Command.Pick n) refl)))))
+  of_side ask h = given (side_at text) NoSide (λ n e. ends 2 (ask n) (h n))
 
   turn : Meets text (turn_of text)
-  unfolding turn_of turn_by
-  turn = number (knob_at text 4294967295) no_knob_number (λ knob e. number (number_at text 2 255) no_count (λ n f. ends 3 (plain (Command.Turn knob n) refl)))
+  unfolding turn_of
+  turn = given (knob_at text 4294967295) NoKnobNumber (λ knob e. given (number_at text 2 255) NoCount (λ n f. ends 3 (Command.Turn knob n) refl))
 
   clicks : Meets text (clicks_of text)
-  unfolding clicks_of clicks_by
-  clicks = number (knob_at text 3) no_knob (λ knob e. number (clicks_in (word_of text 2)) no_clicks (λ n f. ends 3 (plain (Command.Knob knob n) refl)))
+  unfolding clicks_of
+  clicks = given (knob_at text 3) NoKnob (λ knob e. given (clicks_in (word_of text 2)) NoClicks (λ n f. ends 3 (Command.Knob knob n) refl))
 
-  named : (taken : Bool) (why n : ℕ) → Meets text (event_if taken why n text)
+  event_taken : (takes : ℕ → Bool) (mistake : Mistake) → Meets text (event_if takes mistake text)
   unfolding event_if
-  named taken why n = either taken (λ t. ends 2 (plain (Command.Event (2 ^ n)) refl)) (wrong why)
+  event_taken takes mistake = given (event_named text) mistake (λ n e. either (takes n) (λ t. ends 2 (Command.Event (2 ^ n)) refl) (wrong mistake))
 
-  watch : (n : ℕ) → Meets text (watch_by n text)
-  unfolding watch_by
-  watch n = either (ltb n 2) (λ t. ends 2 (plain (Command.Watch (eqb n 1)) refl)) (wrong no_watch)
+  watch : Meets text (watch_of text)
+  unfolding watch_of
+  watch = given (beside watches (word_of text 1)) NoWatch (λ on e. ends 2 (Command.Watch on) refl)
 
   begin : Meets text (start_of text)
   unfolding start_of
-  begin = signed (signed_in (word_of text 1)) no_speed (λ z. ends 2 (plain (Command.Start z) refl))
+  begin = given (signed_in (word_of text 1)) NoSpeed (λ z e. ends 2 (Command.Start z) refl)
 
-  signed_number : (part place : ℕ) → Meets text (damage_number part place text)
+  signed_number : (ask : ℤ → Command) → ((z : ℤ) → allows text (ask z) ≡ true) → Meets text (damage_number ask text)
   unfolding damage_number
-  signed_number part place =
-      signed (signed_in (word_of text 3)) no_signed
-      (λ z. ends 4 (either (eqb part 4) (λ t. plain (Command.DamageWhole place z) refl) (plain (Command.DamageReference part place z) refl)))
+  signed_number ask h = given (signed_in (word_of text 3)) NoSigned (λ z e. ends 4 (ask z) (h z))
 
-  part : (what box : ℕ) → Meets text (damage_part what box text)
-  unfolding damage_part damage_set
-  part what box =
-      either (ltb what 7) (λ t. signed_number box what)
-      (either (eqb what 7)
-      (λ t. set (set_by (figure_at text 3) (figure_at text 4) (figure_at text 5) (figure_at text 6)) (λ s. ends 7 (plain (Command.DamageSet box s) refl)))
-      (wrong no_reference))
+  of_set : (box : ℕ) → Meets text (damage_set box text)
+  unfolding damage_set
+  of_set box =
+      given (set_by (figure_at text 3) (figure_at text 4) (figure_at text 5) (figure_at text 6)) NoSet (λ s f. ends 7 (Command.DamageSet box s) refl)
 
-  damage : (what : ℕ) → Meets text (damage_by what text)
-  unfolding damage_by damage_whole damage_pf damage_independent
-  damage what =
-      either (ltb what 4) (λ t. part (lookup_of (word_of text 2) part_names 8) what)
-      (either (eqb what 4) (λ t. either (ltb (kind_at text 2) 6) (λ t. signed_number 4 (kind_at text 2)) (wrong no_kind))
-      (either (eqb what 5) (λ t. reading (reading_at text 2) (λ r. ends 4 (plain (Command.DamageReading r) refl)))
-      (either (eqb what 6) (λ t. number (number_at text 2 255) no_pf (λ n e. ends 3 (plain (Command.DamagePf n) refl)))
-      (either (eqb what 7) (λ t. number (number_at text 2 1) no_flag (λ n e. ends 3 (plain (Command.DamageIndependent (eqb n 1)) refl)))
-      (wrong no_damage)))))
+  part : (box : ℕ) → Meets text (damage_box box text)
+  unfolding damage_box parts
+  part box =
+      table (λ damage. damage box text) parts NoReference (word_of text 2)
+      (at 0, (at 1, (at 2, (at 3, (at 4, (at 5, (at 6, (of_set box, tt))))))))
+    where
+      at : (place : ℕ) → Meets text (reference place box text)
+      at place = signed_number (λ z. Command.DamageReference box place z) (λ z. refl)
+
+  whole : Meets text (damage_whole text)
+  unfolding damage_whole
+  whole = given (beside kind_numbers (word_of text 2)) NoKind (λ kind e. signed_number (λ z. Command.DamageWhole kind z) (λ z. refl))
+
+  damage : Meets text (damage_of text)
+  unfolding damage_of damages damage_reading damage_pf damage_independent
+  damage =
+      table (λ damage. damage text) damages NoDamage (word_of text 1) (
+        part 0,
+        (
+          part 1,
+          (
+            part 2,
+            (
+              part 3,
+              (
+                whole,
+                (
+                  reading (reading_at text 2) (λ r. ends 4 (Command.DamageReading r) refl),
+                  (
+                    given (number_at text 2 255) NoPf (λ n f. ends 3 (Command.DamagePf n) refl),
+                    (given (number_at text 2 1) NoFlag (λ n f. ends 3 (Command.DamageIndependent (eqb n 1)) refl), tt),
+                  ),
+                ),
+              ),
+            ),
+          ),
+        ),
+      )
 
   area : Meets text (area_of_length text)
   unfolding area_of_length
-  area = number (number_at text 1 2048) no_length (λ n e. ends 2 (plain (Command.Area n) (le-leb n 2048 (number_fits 2048 (word_of text 1) n e))))
+  area = given (number_at text 1 2048) NoLength (λ n e. ends 2 (Command.Area n) (le-leb n 2048 (number_fits 2048 (word_of text 1) n e)))
 
   poke : Meets text (poke_of text)
-  unfolding poke_of poke_by
-  poke = start (start_at text 1) (λ n. either (are_pairs (word_of text 2)) (λ t. ends 3 (plain (Command.Poke n) t)) (wrong no_pairs))
+  unfolding poke_of
+  poke = given (start_at text 1) NoStart (λ n e. either (are_pairs (word_of text 2)) (λ t. ends 3 (Command.Poke n) t) (wrong NoPairs))
 
   write : Meets text (write_of text)
-  unfolding write_of write_by
-  write = number (side_at text) no_side (λ side e. start (start_at text 2) (λ n. ends 3 (plain (Command.Write side n) refl)))
+  unfolding write_of
+  write = given (side_at text) NoSide (λ side e. given (start_at text 2) NoStart (λ n f. ends 3 (Command.Write side n) refl))
 
   read : Meets text (read_of text)
   unfolding read_of
-  read = start (start_at text 1) (λ n. ends 2 (plain (Command.Read n) refl))
+  read = given (start_at text 1) NoStart (λ n e. ends 2 (Command.Read n) refl)
 
   -- the table
-  by_number : (command : ℕ) → Meets text (command_by command text)
-  unfolding command_by
-  by_number command =
-      either (eqb command 0) (λ t. event)
-      (either (ltb command 5) (λ t. of_side command)
-      (either (eqb command 5) (λ t. turn)
-      (either (eqb command 6) (λ t. clicks)
-      (either (eqb command 7) (λ t. reading (reading_at text 1) (λ r. ends 3 (plain (Command.Reading r) refl)))
-      (either (eqb command 8) (λ t. named (is_switch (event_named text)) no_switch (event_named text))
-      (either (eqb command 9) (λ t. named (is_signal (event_named text)) no_signal (event_named text))
-      (either (eqb command 10) (λ t. ends 1 (plain Command.PowerOn refl))
-      (either (eqb command 11) (λ t. ends 1 (plain Command.Bench refl))
-      (either (eqb command 12) (λ t. ends 1 (plain Command.Panel refl))
-      (either (eqb command 13) (λ t. ends 1 (plain Command.Help refl))
-      (either (eqb command 14) (λ t. watch (lookup_of (word_of text 1) watch_names 2))
-      (either (eqb command 15) (λ t. damage (lookup_of (word_of text 1) damage_names 8))
-      (either (eqb command 16) (λ t. area)
-      (either (eqb command 17) (λ t. poke)
-      (either (eqb command 18) (λ t. write)
-      (either (eqb command 19) (λ t. read)
-      (either (eqb command 20) (λ t. ends 1 (plain Command.Bytes refl))
-      (either (eqb command 21) (λ t. begin)
-      (wrong no_command)))))))))))))))))))
+  by_name : (name : List ℕ) → Meets text (command_by name text)
+  unfolding command_by commands
+  by_name name =
+      table (λ command. command text) commands NoCommand name (
+        event,
+        (
+          of_side (λ side. Command.Send side) (λ n. refl),
+          (
+            of_side (λ side. Command.Refresh side) (λ n. refl),
+            (
+              of_side (λ side. Command.Display side) (λ n. refl),
+              (
+                of_side (λ side. Command.Pick side) (λ n. refl),
+                (
+                  turn,
+                  (
+                    clicks,
+                    (
+                      reading (reading_at text 1) (λ r. ends 3 (Command.Reading r) refl),
+                      (
+                        event_taken is_switch NoSwitch,
+                        (
+                          event_taken is_signal NoSignal,
+                          (
+                            ends 1 Command.PowerOn refl,
+                            (
+                              ends 1 Command.Bench refl,
+                              (
+                                ends 1 Command.Panel refl,
+                                (
+                                  ends 1 Command.Help refl,
+                                  (
+                                    watch,
+                                    (
+                                      damage,
+                                      (
+                                        area,
+                                        (
+                                          poke,
+                                          (
+                                            write,
+                                            (
+                                              read,
+                                              (
+                                                ends 1 Command.Bytes refl,
+                                                (begin, tt),
+                                              ),
+                                            ),
+                                          ),
+                                        ),
+                                      ),
+                                    ),
+                                  ),
+                                ),
+                              ),
+                            ),
+                          ),
+                        ),
+                      ),
+                    ),
+                  ),
+                ),
+              ),
+            ),
+          ),
+        ),
+      )
 
   in_text : Meets text (command_in text)
   unfolding command_in
-  in_text = either (absent text 0) (λ t. plain Command.Blank refl) (by_number (lookup_of (word_of text 0) command_names 22))
+  in_text = either (absent text 0) (λ t. record { holds = refl }) (by_name (word_of text 0))
 
 pub line_laws : LineLaws
 unfolding command_of pairs_of

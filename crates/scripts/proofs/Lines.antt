@@ -2,18 +2,18 @@
 use mathlib.Core.Path.{refl}
 use Rattle.words.specs.Words.{up_to, past_spaces, first_word, past_word, word_of}
 use Rattle.numerals.specs.Digits.{all_digits, numeral_value, is_numeral}
-use Rattle.numerals.specs.Numbers.{number_in, wide_in, clicks_in}
+use Rattle.numerals.specs.Numbers.{number_in, clicks_in}
 use Rattle.numerals.specs.Pairs.{are_pairs}
 use Rattle.numerals.specs.Integers.{signed_as}
 use Rattle.numerals.specs.Values.{pattern_of, decimal_as}
-use Rattle.scripts.specs.Commands.{command_names, event_names, side_names, knob_names, kind_names, watch_names, damage_names, part_names, ends_at, named_in}
-use Rattle.scripts.specs.Commands.{event_of, side_at, with_side, knob_at, turn_by, turn_of, clicks_by, clicks_of, event_named, event_if, watch_by, start_of, kind_at, reading_at, figure_at, set_by}
-use Rattle.scripts.specs.Commands.{damage_pf, damage_independent, damage_set, damage_number, damage_part, damage_whole, damage_by, area_of_length, start_at, poke_by, poke_of, write_by, write_of, read_of, command_by, command_in, command_of}
+use Rattle.scripts.specs.Commands.{event_names, sides, knobs, kinds, kind_numbers, watches, damages, parts, commands, ends_at, named}
+use Rattle.scripts.specs.Commands.{event_of, side_at, with_side, knob_at, turn_of, clicks_of, event_named, event_if, watch_of, start_of, reading_at, figure_at, set_by}
+use Rattle.scripts.specs.Commands.{damage_pf, damage_independent, damage_set, damage_number, damage_box, damage_whole, damage_reading, damage_of, area_of_length, start_at, poke_of, write_of, read_of, command_by, command_in, command_of}
 use Rattle.scripts.specs.Lines.{Lines}
 
 pub lines : Lines
-unfolding up_to past_spaces first_word past_word word_of all_digits numeral_value is_numeral number_in wide_in clicks_in are_pairs signed_as pattern_of decimal_as
-    command_names event_names side_names knob_names kind_names watch_names damage_names part_names ends_at named_in
-    event_of side_at with_side knob_at turn_by turn_of clicks_by clicks_of event_named event_if watch_by start_of kind_at reading_at figure_at set_by
-    damage_pf damage_independent damage_set damage_number damage_part damage_whole damage_by area_of_length start_at poke_by poke_of write_by write_of read_of command_by command_in command_of
+unfolding up_to past_spaces first_word past_word word_of all_digits numeral_value is_numeral number_in clicks_in are_pairs signed_as pattern_of decimal_as
+    event_names sides knobs kinds kind_numbers watches damages parts commands ends_at named
+    event_of side_at with_side knob_at turn_of clicks_of event_named event_if watch_of start_of reading_at figure_at set_by
+    damage_pf damage_independent damage_set damage_number damage_box damage_whole damage_reading damage_of area_of_length start_at poke_of write_of read_of command_by command_in command_of
 lines = record { each = refl }

@@ -1,5 +1,6 @@
 pub mod Lines
-pub mod Rooms
 pub mod Clicks
+pub mod Kept
 pub mod Areas
+pub mod Answers
 pub mod Laws

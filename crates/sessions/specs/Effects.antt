@@ -1,11 +1,10 @@
 -- What a command's effect means for the watch and for the bus area. The console's page, 'Words for people' and 'the bus area'.
-use Rattle.std.specs.Prelude.{ℕ, Bool, false, List}
-use Rattle.scripts.specs.declared.Command.{Command}
+use Rattle.std.specs.Prelude.{ℕ, Bool, false, List, Option, Some, None}
+use Rattle.scripts.specs.Commands.{Asked}
 use Rattle.bench.specs.declared.Bench.{Bench}
 use Rattle.acts.specs.declared.Effect.{Effect}
 use Rattle.acts.specs.Acts.{effect_of}
 use Rattle.areas.specs.declared.AreaAct.{AreaAct}
-use Rattle.areas.specs.declared.AreaAct.TheVariants.{Leaves}
 use Rattle.areas.specs.Areas.{area_by}
 
 -- ---- the watch: while it is on, a drawing follows the answer of a command that can change the bench
@@ -25,12 +24,12 @@ is_drawn (Effect.Stores act) watch = false
 -- ---- the bus area
 
 -- of the effects of commands one is on the area
-abbrev pub area_act : Effect → AreaAct
-area_act Effect.Shows = Leaves
-area_act Effect.Acts = Leaves
-area_act (Effect.Watches on) = Leaves
-area_act (Effect.Stores act) = act
+abbrev pub area_act : Effect → Option AreaAct
+area_act Effect.Shows = None
+area_act Effect.Acts = None
+area_act (Effect.Watches on) = None
+area_act (Effect.Stores act) = Some act
 
--- the area after a line that asks for a command, on the bench before it
-abbrev pub area_after : List ℕ → Command → Bench → List ℕ → List ℕ
-area_after line c b area = area_by (area_act (effect_of c)) line b area
+-- the area after a line that asks for this, on the bench before it
+abbrev pub area_after : List ℕ → Asked → Bench → List ℕ → List ℕ
+area_after line asked b area = area_by (area_act (effect_of asked)) line b area

@@ -1,7 +1,7 @@
 -- What a script means, from its bytes: its lines, what each asks for, and the bench and the bus area that they leave. The console's page, 'Script'. How the bytes are read is no part of it.
-use Rattle.std.specs.Prelude.{ℕ, Bool, false, cond, List, [], ◌∷◌, ◌++◌, length, ◌==◌, nat_le}
-use Rattle.scripts.specs.Commands.{command_of}
-use Rattle.scripts.specs.declared.Command.{Command}
+use Rattle.std.specs.Prelude.{ℕ, Bool, false, cond, List, [], ◌∷◌, ◌++◌, length, ◌==◌, nat_le, Err}
+use Rattle.scripts.specs.Commands.{Asked, command_of}
+use Rattle.scripts.specs.declared.Mistake.{Mistake}
 use Rattle.bench.specs.declared.Bench.{Bench}
 use Rattle.bench.specs.Holds.{power_on}
 use Rattle.acts.specs.Acts.{bench_after, effect_of}
@@ -37,9 +37,9 @@ all_lines script = (lines_of script).ended ++ ending (lines_of script).last
 
 -- ---- what lines do
 
--- a line of more than 255 bytes is wrong whatever it holds, by number 1 of what can be wrong; any other asks for what its bytes say
-unfoldable pub asked : List ℕ → Command
-asked line = cond (nat_le (length line) 255) (command_of line) (Command.Wrong 1)
+-- a line of more than 255 bytes is wrong whatever it holds; any other asks for what its bytes say
+unfoldable pub asked : List ℕ → Asked
+asked line = cond (nat_le (length line) 255) (command_of line) (Err Mistake.TooLong)
 
 -- the bench after lines: each is carried out on the bench that the one before it left
 abbrev pub carried : List (List ℕ) → Bench → Bench

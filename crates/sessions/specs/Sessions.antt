@@ -1,107 +1,93 @@
--- A session byte by byte, as the contracts cite it. What a script means is in Script, and that a session comes to it in Laws. The bus area stands first in its store,
--- and a session has its length.
-use Rattle.std.specs.Prelude.{ℕ, ◌+◌, ◌%◌, ◌^◌, Bool, false, cond, List, [], ◌∷◌, length, take, ◌==◌, nat_le, nat_lt, slice_set}
-use Rattle.numerals.specs.Pairs.{laid_over}
-use Rattle.scripts.specs.Commands.{command_of}
+-- A session byte by byte, as the contracts cite it. What a script means is in Script, and that a session comes to it in Laws.
+use Rattle.std.specs.Prelude.{ℕ, ◌+◌, ◌%◌, ◌^◌, Bool, false, cond, List, [], ◌∷◌, ◌++◌, length, take, ◌==◌, Ok}
+use Rattle.scripts.specs.Commands.{Asked}
 use Rattle.scripts.specs.declared.Command.{Command}
+use Rattle.bench.specs.Answers.{refusal_number}
 use Rattle.bench.specs.Holds.{power_on}
-use Rattle.calls.specs.declared.answers.EventAnswer.{EventAnswer}
+use Rattle.calls.specs.Answers.{EventAnswer, event_in}
 use Rattle.acts.specs.declared.Effect.{Effect}
-use Rattle.acts.specs.Acts.{answer_to, effect_of}
-use Rattle.areas.specs.declared.AreaAnswer.{AreaAnswer}
-use Rattle.areas.specs.Areas.{area_answer}
+use Rattle.acts.specs.Acts.{answer_to, bench_after, effect_of}
+use Rattle.areas.specs.Areas.{AreaAnswer, area_answer}
 use Rattle.sessions.specs.declared.Session.{Session}
-use Rattle.sessions.specs.declared.Taken.{Taken}
+use Rattle.sessions.specs.declared.Taken.{Taken as CodeTaken}
 use Rattle.sessions.specs.Effects.{watch_after, is_drawn, area_act, area_after}
+use Rattle.sessions.specs.Script.{asked}
 
 -- a session begins with the bench of power-on, no line, the watch off and an empty area
 abbrev pub beginning : Session
-beginning = record { bench = power_on; lines = 0; length = 0; watch = false; area = 0 }
+beginning = record { bench = power_on; lines = 0; line = record { items = [] }; watch = false; area = record { items = [] } }
 
--- the bytes of the area
-abbrev pub area_in : Session → List ℕ → List ℕ
-area_in s store = take s.area store
+-- ---- what a byte asks for, by the papers' numbers: the command, the refusal or 0, the event acted on or 32, and whether a drawing follows
+
+pub record Taken : Type 0 where
+  pub asked : Asked
+  pub refusal : ℕ
+  pub event : ℕ
+  pub drawn : Bool
+
+-- what the code answers, as this
+abbrev pub as_taken : CodeTaken → Taken
+as_taken t = record { asked = t.asked; refusal = refusal_number t.outcome; event = event_in t.outcome; drawn = t.drawn }
 
 -- ---- a line end
 
--- the command of the n bytes that a room holds of a line; a line that fills its room is too long, by number 1 of what can be wrong
-unfoldable pub line_command : ℕ → List ℕ → Command
-line_command n room = cond (nat_le (length room) n) (Command.Wrong 1) (command_of (take n room))
-
--- those bytes
-abbrev pub line_text : Session → List ℕ → List ℕ
-line_text s room = take s.length room
-
--- the line of this number was answered of the bench and of the area, with the watch as it was; the next one begins
-abbrev pub answered : ℕ → Bool → Effect → EventAnswer → AreaAnswer → Taken
-answered line watch effect a done = record {
-  session = record { bench = a.bench; lines = line; length = 0; watch = watch_after effect watch; area = done.length };
-  command = done.command;
-  refusal = done.refusal;
-  event = a.event;
+-- with the watch as it was, the bench and the area have answered a line; where a frame is refused, that refusal is the line's
+abbrev pub answered : Bool → Effect → EventAnswer → AreaAnswer → Taken
+answered watch effect a done = record {
+  asked = done.asked;
+  refusal = cond (done.refusal == 0) a.refusal done.refusal;
+  event = cond (done.refusal == 0) a.event 32;
   drawn = is_drawn effect watch;
 }
 
--- a line that asks for c is counted, and carried out on the session's bench and then on its area
-unfoldable pub carried_out : Session → List ℕ → Command → List ℕ → Taken
-carried_out s line c store =
-    answered ((s.lines + 1) % 2 ^ 64) s.watch (effect_of c) (answer_to c s.bench)
-    (area_answer (area_act (effect_of c)) c (answer_to c s.bench).refusal line s.bench (area_in s store))
+-- a line that asks for this is carried out on the session's bench and then on its area
+unfoldable pub carried_out : Session → List ℕ → Asked → Taken
+carried_out s line c = answered s.watch (effect_of c) (answer_to c s.bench) (area_answer (area_act (effect_of c)) c line s.bench s.area.items)
 
--- the store then has the area in front
-unfoldable pub store_carried : Session → List ℕ → Command → List ℕ → List ℕ
-store_carried s line c store = laid_over (area_after line c s.bench (area_in s store)) store
+-- it is counted, and the next one begins; the area has room for 2,048 bytes
+unfoldable pub after_line : Session → List ℕ → Asked → Session
+after_line s line c = record {
+  bench = bench_after c s.bench;
+  lines = (s.lines + 1) % 2 ^ 64;
+  line = record { items = [] };
+  watch = watch_after (effect_of c) s.watch;
+  area = record { items = take 2048 (area_after line c s.bench s.area.items) };
+}
 
 -- ---- inside a line
 
--- nothing is asked while a line goes on, which has n bytes now
-abbrev pub goes_on : Session → ℕ → Taken
-goes_on s n = record {
-  session = record { bench = s.bench; lines = s.lines; length = n; watch = s.watch; area = s.area };
-  command = Command.Blank;
-  refusal = 0;
-  event = 32;
-  drawn = false;
-}
+-- nothing is asked while a line goes on
+abbrev pub goes_on : Taken
+goes_on = record { asked = Ok Command.Blank; refusal = 0; event = 32; drawn = false }
 
--- how many bytes are kept of n and one more
-abbrev pub kept_of_one_more : ℕ → List ℕ → ℕ
-kept_of_one_more n room = cond (nat_lt n (length room)) (n + 1) n
+-- 256 bytes are kept of a line, which are more than it may have
+abbrev pub with_byte : Session → ℕ → Session
+with_byte s byte = record { bench = s.bench; lines = s.lines; line = record { items = take 256 (s.line.items ++ byte ∷ []) }; watch = s.watch; area = s.area }
 
 -- ---- a byte, of which 10 is the line end, and the script's end
 
-unfoldable pub byte_taken : Session → List ℕ → List ℕ → ℕ → Taken
-byte_taken s room store byte = cond (byte == 10) (carried_out s (line_text s room) (line_command s.length room) store) (goes_on s (kept_of_one_more s.length room))
+unfoldable pub byte_taken : Session → ℕ → Taken
+byte_taken s byte = cond (byte == 10) (carried_out s s.line.items (asked s.line.items)) goes_on
 
--- the room afterwards; a byte past its end is dropped
-unfoldable pub room_after : Session → List ℕ → ℕ → List ℕ
-room_after s room byte = cond (byte == 10) room (slice_set room s.length byte)
-
--- the store afterwards
-unfoldable pub store_after : Session → List ℕ → List ℕ → ℕ → List ℕ
-store_after s room store byte = cond (byte == 10) (store_carried s (line_text s room) (line_command s.length room) store) store
+-- the session afterwards
+unfoldable pub after_byte : Session → ℕ → Session
+after_byte s byte = cond (byte == 10) (after_line s s.line.items (asked s.line.items)) (with_byte s byte)
 
 -- a last line that holds a byte is carried out
-unfoldable pub script_ended : Session → List ℕ → List ℕ → Taken
-script_ended s room store = cond (s.length == 0) (goes_on s 0) (carried_out s (line_text s room) (line_command s.length room) store)
+unfoldable pub script_ended : Session → Taken
+script_ended s = cond (length s.line.items == 0) goes_on (carried_out s s.line.items (asked s.line.items))
 
-unfoldable pub store_ended : Session → List ℕ → List ℕ → List ℕ
-store_ended s room store = cond (s.length == 0) store (store_carried s (line_text s room) (line_command s.length room) store)
+unfoldable pub after_end : Session → Session
+after_end s = cond (length s.line.items == 0) s (after_line s s.line.items (asked s.line.items))
 
 -- ---- many bytes
 
--- a session, its room and its store
-pub record Held : Type 0 where
-  pub session : Session
-  pub room : List ℕ
-  pub store : List ℕ
-
 -- after a piece of a script, byte by byte
-unfoldable pub fed : Session → List ℕ → List ℕ → List ℕ → Held
-fed s room store [] = record { session = s; room = room; store = store }
-fed s room store (byte ∷ more) = fed (byte_taken s room store byte).session (room_after s room byte) (store_after s room store byte) more
+unfoldable pub fed : Session → List ℕ → Session
+fed s [] = s
+fed s (byte ∷ more) = fed (after_byte s byte) more
 
 -- after pieces, one after the other
-abbrev pub fed_all : Session → List ℕ → List ℕ → List (List ℕ) → Held
-fed_all s room store [] = record { session = s; room = room; store = store }
-fed_all s room store (piece ∷ more) = fed_all (fed s room store piece).session (fed s room store piece).room (fed s room store piece).store more
+abbrev pub fed_all : Session → List (List ℕ) → Session
+fed_all s [] = s
+fed_all s (piece ∷ more) = fed_all (fed s piece) more

@@ -10,10 +10,8 @@ pub(crate) fn watch_after(effect: Effect, watch: bool) -> bool
     ensures { result ≡ watch_after effect watch }
 {
     match effect {
-        Effect::Shows => watch,
-        Effect::Acts => watch,
         Effect::Watches(on) => on,
-        Effect::Stores(_) => watch,
+        Effect::Shows | Effect::Acts | Effect::Stores(_) => watch,
     }
 }
 
@@ -21,22 +19,15 @@ pub(crate) fn watch_after(effect: Effect, watch: bool) -> bool
 pub(crate) fn is_drawn(effect: Effect, watch: bool) -> bool
     ensures { result ≡ is_drawn effect watch }
 {
-    match effect {
-        Effect::Shows => false,
-        Effect::Acts => watch,
-        Effect::Watches(_) => false,
-        Effect::Stores(_) => false,
-    }
+    watch && matches!(effect, Effect::Acts)
 }
 
-// What is done to the area.
-pub(crate) fn area_act(effect: Effect) -> AreaAct
+// What is done to the area, if anything is.
+pub(crate) fn area_act(effect: Effect) -> Option<AreaAct>
     ensures { result ≡ area_act effect }
 {
     match effect {
-        Effect::Shows => AreaAct::Leaves,
-        Effect::Acts => AreaAct::Leaves,
-        Effect::Watches(_) => AreaAct::Leaves,
-        Effect::Stores(act) => act,
+        Effect::Stores(act) => Some(act),
+        Effect::Shows | Effect::Acts | Effect::Watches(_) => None,
     }
 }

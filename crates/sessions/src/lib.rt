@@ -4,168 +4,134 @@
 
 mod effects;
 
-ghost use Rattle.std.specs.Prelude.{◌≡◌, take, slice_set};
-ghost use Rattle.sessions.specs.Sessions.{beginning, area_in, line_command, line_text, carried_out, store_carried, goes_on, kept_of_one_more, byte_taken, room_after, store_after};
-ghost use Rattle.sessions.specs.Sessions.{script_ended, store_ended};
+ghost use Rattle.std.specs.Prelude.{◌≡◌};
+ghost use Rattle.sessions.specs.Script.{asked};
+ghost use Rattle.sessions.specs.Sessions.{beginning, as_taken, carried_out, after_line, goes_on, with_byte, byte_taken, after_byte, script_ended, after_end};
 
+use arrayvec::ArrayVec;
 use bench::Bench;
-use scripts::Command;
+use bench::answers::Refusal;
+use scripts::{Command, Mistake};
 
-// What is kept from one byte of a script to the next, beside the room for the bytes of the line and the store that the
-// bus area is the beginning of.
-#[derive(Clone, Copy)]
+// What is kept from one byte of a script to the next.
+#[derive(Drop)]
 pub struct Session {
     pub bench: Bench,
     // line ends so far, modulo 2^64
     pub lines: u64,
-    // bytes of the line that is being read; a line that fills its room is too long
-    pub length: usize,
+    // the bytes of the line that is being read; a line that fills its room is too long
+    line: ArrayVec<u8, 256>,
     // while it is on, a drawing follows each answer of a command that can change the bench
     pub watch: bool,
-    // bytes of the bus area, at most as many as its store has
-    pub area: usize,
+    // the bus area
+    area: ArrayVec<u8, 2048>,
 }
 
-// The session after a byte, and what was asked: the command of a line that ended, with its refusal, the
-// event acted on or 32, and whether a drawing follows. Inside a line it is `Blank`.
+// What a byte asked for: the command of a line that ended, with the event acted on or 32, or with its
+// refusal, and whether a drawing follows. Inside a line it is `Blank`.
 #[derive(Clone, Copy)]
 pub struct Taken {
-    pub session: Session,
-    pub command: Command,
-    pub refusal: u32,
-    pub event: u32,
+    pub asked: Result<Command, Mistake>,
+    pub outcome: Result<u32, Refusal>,
     pub drawn: bool,
 }
 
-// A session in front of a script's first byte.
-pub fn begin() -> Session
-    ensures { result ≡ beginning }
+// What a line asks for. One that fills its room is longer than a line may be.
+#[tactic(auto, unfolding(crate::specs::Script::asked))]
+fn asked_in(line: &ArrayVec<u8, 256>) -> Result<Command, Mistake>
+    ensures { result ≡ asked line.now.items }
 {
-    let bench = bench::power_on();
-    Session {
-        bench,
-        lines: 0,
-        length: 0,
-        watch: false,
-        area: 0,
+    if line.is_full() {
+        return Err(Mistake::TooLong);
     }
+    scripts::command_of(line.as_slice())
 }
 
-// The first n bytes, or all where there are fewer.
-fn first(bytes: &[u8], n: usize) -> &[u8]
-    ensures { result.now ≡ take n bytes.now }
+// What a byte asks for inside a line.
+fn nothing() -> Taken
+    ensures { as_taken result ≡ goes_on }
 {
-    if n < bytes.len() {
-        return &bytes[..n];
-    }
-    bytes
-}
-
-// The bus area of a session.
-pub fn area_of(s: Session, area: &[u8; 2048]) -> &[u8]
-    ensures { result.now ≡ area_in s area.now }
-{
-    first(area, s.area)
-}
-
-// The session after a line that asks for a command: the line is counted, and the next one begins.
-fn carry_out(s: Session, command: Command, text: &[u8], store: &mut [u8]) -> Taken
-    ensures answer { result ≡ carried_out s text.now command store.old }
-    ensures new_store { store.new ≡ store_carried s text.now command store.old }
-{
-    let b = s.bench;
-    let lines = std::num::wrapping_add_u64(s.lines, 1);
-    let a = acts::answer_to(b, command);
-    let bench = a.bench;
-    let effect = acts::effect_of(command);
-    let act = effects::area_act(effect);
-    let done = areas::answer_in(act, command, a.refusal, text, b, store, s.area);
-    let heard = done.command;
-    let session = Session {
-        bench,
-        lines,
-        length: 0,
-        watch: effects::watch_after(effect, s.watch),
-        area: done.length,
-    };
     Taken {
-        session,
-        command: heard,
-        refusal: done.refusal,
-        event: a.event,
-        drawn: effects::is_drawn(effect, s.watch),
-    }
-}
-
-// The command of a line of n bytes. One that fills its room is longer than a line may be.
-#[tactic(auto, unfolding(crate::specs::Sessions::line_command))]
-fn command_of_line(line: &[u8], n: usize) -> Command
-    ensures { result ≡ line_command n line.now }
-{
-    if line.len() <= n {
-        return Command::Wrong(scripts::TOO_LONG);
-    }
-    scripts::command_of(&line[0..n])
-}
-
-// Carries out the line that the room holds.
-fn end_line(s: Session, line: &[u8], store: &mut [u8]) -> Taken
-    ensures answer { result ≡ carried_out s (line_text s line.now) (line_command s.length line.now) store.old }
-    ensures new_store { store.new ≡ store_carried s (line_text s line.now) (line_command s.length line.now) store.old }
-{
-    let command = command_of_line(line, s.length);
-    carry_out(s, command, first(line, s.length), store)
-}
-
-// Keeps one byte more of a line of n bytes, and answers how many it has then; a byte that has no room
-// is dropped.
-fn keep(line: &mut [u8], n: usize, byte: u8) -> usize
-    ensures answer { result ≡ kept_of_one_more n line.old }
-    ensures new_line { line.new ≡ slice_set line.old n byte }
-{
-    if n < line.len() {
-        line[n] = byte;
-        return n + 1;
-    }
-    n
-}
-
-// The session inside a line that has so many bytes.
-fn go_on(s: Session, length: usize) -> Taken
-    ensures { result ≡ goes_on s length }
-{
-    let mut session = s;
-    session.length = length;
-    Taken {
-        session,
-        command: Command::Blank,
-        refusal: 0,
-        event: 32,
+        asked: Ok(Command::Blank),
+        outcome: Ok(32),
         drawn: false,
     }
 }
 
-// One byte more of the script.
-#[tactic(auto, unfolding(crate::specs::Sessions::byte_taken, crate::specs::Sessions::room_after, crate::specs::Sessions::store_after))]
-pub fn take_byte(s: Session, byte: u8, line: &mut [u8; 256], area: &mut [u8; 2048]) -> Taken
-    ensures answer { result ≡ byte_taken s line.old area.old byte }
-    ensures new_line { line.new ≡ room_after s line.old byte }
-    ensures new_area { area.new ≡ store_after s line.old area.old byte }
-{
-    if byte == b'\n' {
-        return end_line(s, line, area);
+impl Session {
+    // A session in front of a script's first byte.
+    pub fn begin() -> Session
+        ensures { result ≡ beginning }
+    {
+        Session {
+            bench: bench::power_on(),
+            lines: 0,
+            line: ArrayVec::new(),
+            watch: false,
+            area: ArrayVec::new(),
+        }
     }
-    go_on(s, keep(line, s.length, byte))
-}
 
-// The script's end. A last line without a line end is carried out.
-#[tactic(auto, unfolding(crate::specs::Sessions::script_ended, crate::specs::Sessions::store_ended))]
-pub fn end_script(s: Session, line: &[u8; 256], area: &mut [u8; 2048]) -> Taken
-    ensures answer { result ≡ script_ended s line.now area.old }
-    ensures new_area { area.new ≡ store_ended s line.now area.old }
-{
-    if s.length == 0 {
-        return go_on(s, 0);
+    // The bytes of the bus area.
+    pub fn area(&self) -> &[u8]
+        ensures { result.now ≡ self.now.area.items }
+    {
+        self.area.as_slice()
     }
-    end_line(s, line, area)
+
+    // Carries out the line that was read: it is counted, and the next one begins.
+    fn end_line(&mut self) -> Taken
+        ensures answer { as_taken result ≡ carried_out self.old self.old.line.items (asked self.old.line.items) }
+        ensures new_session { self.new ≡ after_line self.old self.old.line.items (asked self.old.line.items) }
+    {
+        let asked = asked_in(&self.line);
+        let answer = acts::answer_to(self.bench, asked);
+        let effect = acts::effect_of(asked);
+        let act = effects::area_act(effect);
+        let done = areas::answer_in(act, asked, self.line.as_slice(), self.bench, &mut self.area);
+        let drawn = effects::is_drawn(effect, self.watch);
+        self.bench = answer.bench;
+        self.lines = self.lines.wrapping_add(1);
+        self.line.clear();
+        self.watch = effects::watch_after(effect, self.watch);
+        Taken {
+            asked: done.asked,
+            outcome: done.written.and(answer.outcome),
+            drawn,
+        }
+    }
+
+    // Keeps one byte more of the line. One that has no room is dropped: the line is too long without it.
+    fn keep(&mut self, byte: u8)
+        ensures { self.new ≡ with_byte self.old byte }
+    {
+        if !self.line.is_full() {
+            self.line.push(byte);
+        }
+    }
+
+    // One byte more of the script.
+    #[tactic(auto, unfolding(crate::specs::Sessions::byte_taken, crate::specs::Sessions::after_byte))]
+    pub fn take_byte(&mut self, byte: u8) -> Taken
+        ensures answer { as_taken result ≡ byte_taken self.old byte }
+        ensures new_session { self.new ≡ after_byte self.old byte }
+    {
+        if byte == b'\n' {
+            return self.end_line();
+        }
+        self.keep(byte);
+        nothing()
+    }
+
+    // The script's end. A last line without a line end is carried out.
+    #[tactic(auto, unfolding(crate::specs::Sessions::script_ended, crate::specs::Sessions::after_end))]
+    pub fn end_script(&mut self) -> Taken
+        ensures answer { as_taken result ≡ script_ended self.old }
+        ensures new_session { self.new ≡ after_end self.old }
+    {
+        if self.line.is_empty() {
+            return nothing();
+        }
+        self.end_line()
+    }
 }

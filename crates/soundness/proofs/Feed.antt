@@ -1,8 +1,9 @@
 -- Readings and whole values in a call: an accepted reading stores both, and what the other calls are made of leaves both. Assumes nothing.
-use mathlib.Core.Path.{◌≡◌, refl, sym, ap, ◌∙◌}
+use mathlib.Core.Path.{◌≡◌, ◌∙◌}
 use mathlib.Core.Bool.{Bool, true, false, cond, true≢false}
 use Prim.Native.Nat.{ℕ}
 use lib.Dec.{eqb}
+use borrow.Author.Tests.{ne_eqb}
 use lib.Count.{count_trailing_zeros}
 use lib.IntN.{ℤ}
 use Rattle.modes.specs.declared.ModeSet.{ModeSet}
@@ -21,9 +22,9 @@ use Rattle.steps.specs.Entry.{settled}
 use Rattle.steps.specs.Steps.{with_fd_after, first_step, later_steps, three_steps}
 use Rattle.steps.proofs.ByEvent.{by_event}
 use Rattle.knobs.specs.Knobs.{referred, reference_moved, pitched, wheel_turned, altitude_turned, heading_turned, knob_turned, counted, turned}
-use Rattle.calls.specs.Calls.{Call, event, turn, reading, send, refresh, display, refusal, received, done, next}
+use Rattle.calls.specs.declared.call.Call.{Call}
+use Rattle.calls.specs.Calls.{refusal, received, done, next}
 use Rattle.calls.specs.Sends.{sent, taken, refreshed}
-use Rattle.calls.proofs.Answered.{next_refused}
 use Rattle.soundness.specs.Feed.{is_reading, SameFeed, FeedLaws}
 use Rattle.soundness.proofs.Kept.{next_sound}
 
@@ -96,30 +97,29 @@ refreshed_feed s b = search either
 
 done_feed : (c : Call) (b : Bench) → is_reading c ≡ false → SameFeed b (done c b)
 unfolding sent with_box
-done_feed (event word) b e = let x = event_at (count_trailing_zeros 32 word) in by_event (SameFeed b) x b (λ e. search) (λ e. begun_feed b) (three_feed x b)
-done_feed (turn knob n) b e = turned_feed knob n b
-done_feed (reading r) b e = absurd (true≢false e)
-done_feed (send s) b e = search
-done_feed (refresh s) b e = refreshed_feed s b
-done_feed (display s) b e = search
+done_feed (Call.Event word) b e = let x = event_at (count_trailing_zeros 32 word) in by_event (SameFeed b) x b (λ e. search) (λ e. begun_feed b) (three_feed x b)
+done_feed (Call.Turn knob n) b e = turned_feed knob n b
+done_feed (Call.Reading r) b e = absurd (true≢false e)
+done_feed (Call.Send s) b e = search
+done_feed (Call.Refresh s) b e = refreshed_feed s b
+done_feed (Call.Display s) b e = search
 
 others : (b : Bench) (c : Call) → is_reading c ≡ false → SameFeed b (next b c)
 unfolding next
 others b c e = either b (eqb (refusal b c) 0) (ended (done c b)) b (then b (done c b) _ (done_feed c b e) (ended_feed (done c b))) (search)
 
-received_feed : (b : Bench) (r : Reading) → refusal b (reading r) ≡ 0 → SameFeed (received r b) (next b (reading r))
+received_feed : (b : Bench) (r : Reading) → refusal b (Call.Reading r) ≡ 0 → SameFeed (received r b) (next b (Call.Reading r))
 unfolding next
 received_feed b r e = rw e (ended_feed (received r b))
 
-accepted : (b : Bench) (r : Reading) → refusal b (reading r) ≡ 0
-    → ((next b (reading r)).readings ≡ stored r b.readings) × ((next b (reading r)).wholes ≡ stored_whole r b.wholes)
+accepted : (b : Bench) (r : Reading) → refusal b (Call.Reading r) ≡ 0
+    → ((next b (Call.Reading r)).readings ≡ stored r b.readings) × ((next b (Call.Reading r)).wholes ≡ stored_whole r b.wholes)
 unfolding received with_readings with_wholes
 accepted b r e = let k = received_feed b r e in (k.readings, k.wholes)
 
-refused : (b : Bench) (r : Reading) → (refusal b (reading r) ≡ 0 → ⊥) → SameFeed b (next b (reading r))
-refused b r k =
-    let e = sym (next_refused b (reading r) (refusal b (reading r)) refl k) in
-    record { readings = ap (λ (x : Bench). x.readings) e; wholes = ap (λ (x : Bench). x.wholes) e }
+refused : (b : Bench) (r : Reading) → (refusal b (Call.Reading r) ≡ 0 → ⊥) → SameFeed b (next b (Call.Reading r))
+unfolding next
+refused b r k = rw (ne_eqb (refusal b (Call.Reading r)) 0 k) (search)
 
 pub feed_laws : FeedLaws
 feed_laws = record {

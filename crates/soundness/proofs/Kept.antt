@@ -17,7 +17,8 @@ use Rattle.bench.specs.declared.Bench.{Bench}
 use Rattle.bench.specs.Independent.{ended}
 use Rattle.bench.specs.Sound.{sound}
 use Rattle.steps.proofs.ByEvent.{by_event}
-use Rattle.calls.specs.Calls.{Call, event, turn, reading, send, refresh, display, own_refusal, refusal, done, next}
+use Rattle.calls.specs.declared.call.Call.{Call}
+use Rattle.calls.specs.Calls.{own_refusal, refusal, done, next}
 use Rattle.soundness.specs.Kept.{KeepsSound, LawsInRange}
 use Rattle.bench.proofs.SoundParts.{by_cond, PartsIn, parts, whole}
 use Rattle.bench.proofs.StartLaws.{start_sound}
@@ -28,14 +29,14 @@ pub mod Changes
 
 -- what an accepted call does, in its parts: independent operation is looked at afterwards
 done_sound : (c : Call) (b : Bench) → eqb (own_refusal c) 0 ≡ true → PartsIn b → PartsIn (done c b)
-done_sound (event word) b e h =
+done_sound (Call.Event word) b e h =
     let x = event_at (count_trailing_zeros 32 word) in
     by_event PartsIn x b (λ e. h) (λ e. begun_sound b h) (three_sound x b h)
-done_sound (turn knob n) b e h = turned_sound knob n b h
-done_sound (reading r) b e h = received_sound r b e h
-done_sound (send s) b e h = sent_sound s b h
-done_sound (refresh s) b e h = refreshed_sound s b h
-done_sound (display s) b e h = h
+done_sound (Call.Turn knob n) b e h = turned_sound knob n b h
+done_sound (Call.Reading r) b e h = received_sound r b e h
+done_sound (Call.Send s) b e h = sent_sound s b h
+done_sound (Call.Refresh s) b e h = refreshed_sound s b h
+done_sound (Call.Display s) b e h = h
 
 -- a call hands back what it makes of the bench, or the bench as it came
 pub next_sound : (b : Bench) (c : Call) → sound b ≡ true → sound (next b c) ≡ true

@@ -10,15 +10,16 @@ use Rattle.bench.specs.Sound.{sound}
 use Rattle.steps.specs.Entry.{settled}
 use Rattle.steps.specs.Steps.{first_step}
 use Rattle.knobs.specs.Knobs.{referred, counted}
-use Rattle.calls.specs.Calls.{Call, event, turn, reading, send, refresh, display, refusal, next}
+use Rattle.calls.specs.declared.call.Call.{Call}
+use Rattle.calls.specs.Calls.{refusal, next}
 
 abbrev pub is_reading : Call → Bool
-is_reading (event word) = false
-is_reading (turn knob n) = false
-is_reading (reading r) = true
-is_reading (send s) = false
-is_reading (refresh s) = false
-is_reading (display s) = false
+is_reading (Call.Event word) = false
+is_reading (Call.Turn knob n) = false
+is_reading (Call.Reading r) = true
+is_reading (Call.Send s) = false
+is_reading (Call.Refresh s) = false
+is_reading (Call.Display s) = false
 
 -- x has the readings and the whole values of b
 pub record SameFeed (b x : Bench) : Type 0 where
@@ -27,9 +28,9 @@ pub record SameFeed (b x : Bench) : Type 0 where
 
 pub record FeedLaws : Type 0 where
   -- a reading that is accepted leaves its float and its whole value together, and one that is refused leaves neither
-  pub accepted : (b : Bench) (r : Reading) → refusal b (reading r) ≡ 0
-      → ((next b (reading r)).readings ≡ stored r b.readings) × ((next b (reading r)).wholes ≡ stored_whole r b.wholes)
-  pub refused : (b : Bench) (r : Reading) → (refusal b (reading r) ≡ 0 → ⊥) → SameFeed b (next b (reading r))
+  pub accepted : (b : Bench) (r : Reading) → refusal b (Call.Reading r) ≡ 0
+      → ((next b (Call.Reading r)).readings ≡ stored r b.readings) × ((next b (Call.Reading r)).wholes ≡ stored_whole r b.wholes)
+  pub refused : (b : Bench) (r : Reading) → (refusal b (Call.Reading r) ≡ 0 → ⊥) → SameFeed b (next b (Call.Reading r))
   -- no other call changes either,
   pub others : (b : Bench) (c : Call) → is_reading c ≡ false → SameFeed b (next b c)
   -- nor does what goes ahead of entry in a call: an event's first step, entry on the other side, a turn's count, a reference that it moves

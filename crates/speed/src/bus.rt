@@ -5,73 +5,56 @@
 // 97 of 100 writes are accepted and 98 of 100 reads.
 ghost use Rattle.std.specs.Prelude.{◌<◌};
 
+use crate::checksum::{Sum, pair};
+use crate::list;
+use bench::answers::refusal_number;
 use bench::parts::{HEADING, HELD, IAS, PITCH, PRESELECTED, ROLL, VERTICAL_SPEED};
-use bench::{Bench, Channel, Reading, Readings, References, Wholes};
-use codes::Coded;
+use bench::ranges::{clamped_sum, reference_range};
+use bench::{Bench, Channel, Reading, Readings, References, Shared, Wholes};
+use frames::Frame;
 use modes::ModeSet;
 
 // ---- the benches
 
-// How far a reference lies above the lower end of its range.
-fn amount(place: u32, word: u64) -> i32 {
-    match place {
-        0 => (word % 360) as i32,
-        1 => ((word >> 8) % 64001) as i32,
-        2 => ((word >> 24) % 64001) as i32,
-        3 => ((word >> 40) % 101) as i32,
-        4 => ((word >> 48) % 341) as i32,
-        5 => ((word >> 32) % 55) as i32,
-        _ => ((word >> 56) % 41) as i32,
-    }
-}
-
-// The references with one of them as the word gives it.
-fn with_amount(r: References, place: u32, word: u64) -> References {
-    let range = bench::ranges::reference_range(place);
-    let x = bench::ranges::clamped_sum(range, range.low, amount(place, word));
-    bench::parts::with_reference(r, place, x)
+// The reference of a place that lies so far above the lower end of its range.
+fn reference(place: u32, above: u64) -> i32
+    requires { above < 65536 }
+{
+    let range = reference_range(place);
+    clamped_sum(range, range.low, above as i32)
 }
 
 fn references_of(word: u64) -> References {
-    let mut r = bench::parts::zero_references();
-    r = with_amount(r, HEADING, word);
-    r = with_amount(r, PRESELECTED, word);
-    r = with_amount(r, HELD, word);
-    r = with_amount(r, VERTICAL_SPEED, word);
-    r = with_amount(r, IAS, word);
-    r = with_amount(r, ROLL, word);
-    with_amount(r, PITCH, word)
-}
-
-// One of the 108 sets.
-fn set_of(word: u64) -> ModeSet {
-    match codes::set_of(((word >> 4) % 108) as u32) {
-        Coded::Set(s) => s,
-        Coded::NoSet => ModeSet::Off,
+    References {
+        heading: reference(HEADING, word % 360),
+        preselected: reference(PRESELECTED, (word >> 8) % 64001),
+        held: reference(HELD, (word >> 24) % 64001),
+        vertical_speed: reference(VERTICAL_SPEED, (word >> 40) % 101),
+        ias: reference(IAS, (word >> 48) % 341),
+        roll: reference(ROLL, (word >> 32) % 55),
+        pitch: reference(PITCH, (word >> 56) % 41),
     }
 }
 
+// A channel with one of the 108 sets.
 fn channel_of(word: u64) -> Channel {
-    let set = set_of(word);
-    let references = references_of(word);
+    let code = ((word >> 4) % 108) as u32;
     Channel {
         fd: (word >> 20) % 2 == 1,
-        set,
-        references,
+        set: codes::set_of(code).unwrap_or(ModeSet::Off),
+        references: references_of(word),
     }
 }
 
 // Readings in their ranges, in steps of an eighth.
 fn readings_of(word: u64) -> Readings {
-    let eighths = ((word >> 4) % 8) as u32;
-    let whole = word >> 8;
     Readings {
-        altitude: crate::list::in_eighths(-8000.0, (whole % 64000) as u32, eighths),
-        airspeed: crate::list::in_eighths(0.0, (whole % 600) as u32, eighths),
-        vertical_speed: crate::list::in_eighths(-300.0, (whole % 600) as u32, eighths),
-        roll: crate::list::in_eighths(-180.0, (whole % 359) as u32, eighths),
-        pitch: crate::list::in_eighths(-90.0, (whole % 179) as u32, eighths),
-        heading: crate::list::in_eighths(0.0, (whole % 359) as u32, eighths),
+        altitude: list::in_eighths(-8000.0, 64000, word),
+        airspeed: list::in_eighths(0.0, 600, word),
+        vertical_speed: list::in_eighths(-300.0, 600, word),
+        roll: list::in_eighths(-180.0, 359, word),
+        pitch: list::in_eighths(-90.0, 179, word),
+        heading: list::in_eighths(0.0, 359, word),
     }
 }
 
@@ -91,36 +74,34 @@ fn wholes_of(w: Readings) -> Wholes {
     }
 }
 
-// The bench with these readings and their whole values.
-fn with_feed(b: Bench, w: Readings) -> Bench {
-    bench::parts::with_wholes(bench::parts::with_readings(b, w), wholes_of(w))
-}
-
-// The bench with a PF side, which rarely is none: then the bench is unsound, and never else.
-fn with_pf(b: Bench, word: u64) -> Bench {
-    let pf = if crate::list::is_rare(word) { 2 } else { 0 };
-    let shared = b.shared;
-    bench::parts::with_shared(b, bench::parts::with_pf(shared, pf))
-}
-
-// A bench with two sides that have sent: nothing that soundness looks at is the same in all benches.
+// A bench with two sides that have sent: nothing that soundness looks at is the same in all benches. Its PF side
+// rarely is none: then the bench is unsound, and never else.
 fn bench_of(word: u64) -> Bench {
-    let other = crate::list::shuffled(word);
+    let other = list::shuffled(word);
     let left = channel_of(word);
     let right = channel_of(other);
-    let mut b = with_pf(bench::power_on(), other);
-    b = with_feed(b, readings_of(other));
-    b = bench::parts::with_box(b, 0, left);
-    b = bench::parts::with_box(b, 1, right);
-    b = bench::parts::with_box(b, 2, right);
-    bench::parts::with_box(b, 3, left)
+    let readings = readings_of(other);
+    let start = bench::power_on();
+    Bench {
+        shared: Shared {
+            pf: if list::is_rare(other) { 2 } else { 0 },
+            ..start.shared
+        },
+        readings,
+        wholes: wholes_of(readings),
+        left,
+        right,
+        left_inbox: right,
+        right_inbox: left,
+        ..start
+    }
 }
 
 // ---- the arguments
 
 // A side's number, and for half the rare words one that no side has.
 fn side(word: u64) -> u32 {
-    if crate::list::is_rare(word) & ((word >> 17) % 2 == 1) {
+    if list::is_rare(word) && (word >> 17) % 2 == 1 {
         2
     } else {
         ((word >> 16) % 2) as u32
@@ -129,7 +110,7 @@ fn side(word: u64) -> u32 {
 
 // A start: rarely one too near the end, past it, or near the largest number.
 fn start(word: u64, usual: u64) -> u64 {
-    if !crate::list::is_rare(word) {
+    if !list::is_rare(word) {
         return usual;
     }
     let far = word >> 24;
@@ -150,110 +131,104 @@ fn frame_start(word: u64) -> u64
 
 // Whether a byte of the frame is changed for one read.
 fn is_spoiled(word: u64) -> bool {
-    crate::list::is_rare(word) & ((word >> 14) % 4 == 3)
+    list::is_rare(word) && (word >> 14) % 4 == 3
 }
 
 // ---- the steps
 
-// A write: start, side and refusal make one word. Where `live` is false no call is made, here and below.
-fn write_step(b: Bench, word: u64, area: &mut [u8; 2048], sum: u64, live: bool) -> u64 {
+// A write: start, side and refusal make one word. Where LIVE is false no call is made, here and below.
+fn write_step<const LIVE: bool>(area: &mut [u8; 2048], b: Bench, word: u64, sum: Sum) -> Sum {
     let at = start(word, (word >> 24) % 2030);
     let of = side(word);
-    let place = at ^ (crate::checksum::wide(of) << 32);
-    if !live {
-        return crate::checksum::fold(sum, place);
+    let place = at ^ pair(0, of);
+    if !LIVE {
+        return sum.with(place);
     }
-    let refusal = frames::write(b, of, area, at as usize);
-    crate::checksum::fold(sum, place ^ (crate::checksum::wide(refusal) << 40))
+    let refusal = refusal_number(&frames::write(b, of, area, at as usize));
+    sum.with(place ^ (u64::from(refusal) << 40))
+}
+
+// What a refused frame counts as.
+fn nothing() -> Frame {
+    Frame {
+        side: 0,
+        channel: Channel {
+            fd: false,
+            set: ModeSet::Off,
+            references: bench::parts::zero_references(),
+        },
+    }
 }
 
 // A read. Without the call a channel of the bench goes into the sum in place of the frame's, so that the checksum
 // takes the same time.
-fn read_at(area: &[u8; 2048], at: u64, instead: Channel, sum: u64, live: bool) -> u64 {
-    if !live {
-        return crate::checksum::fold_channel(crate::checksum::fold(sum, at), instead);
+fn read_at<const LIVE: bool>(area: &[u8; 2048], at: u64, instead: Channel, sum: Sum) -> Sum {
+    if !LIVE {
+        return sum.with(at).with_channel(instead);
     }
-    let r = frames::read(area, at as usize);
-    let c = r.channel;
-    let answer = (crate::checksum::wide(r.side) << 32) ^ (crate::checksum::wide(r.refusal) << 40);
-    crate::checksum::fold_channel(crate::checksum::fold(sum, at ^ answer), c)
+    let read = frames::read(area, at as usize);
+    let refusal = refusal_number(&read);
+    let frame = read.unwrap_or(nothing());
+    sum.with(at ^ pair(0, frame.side) ^ (u64::from(refusal) << 40))
+        .with_channel(frame.channel)
 }
 
-// A read with one byte of the frame changed, which is changed back.
-fn read_spoiled(area: &mut [u8; 2048], word: u64, c: Channel, sum: u64, live: bool) -> u64 {
+// A read, rarely one with one byte of the frame changed, which is changed back.
+fn read_step<const LIVE: bool>(area: &mut [u8; 2048], b: Bench, word: u64, sum: Sum) -> Sum {
+    let c = bench::parts::box_of(b, side(word));
     let begin = frame_start(word);
+    if !is_spoiled(word) {
+        return read_at::<LIVE>(area, start(word, begin), c, sum);
+    }
     let at = (begin + (word >> 32) % 19) as usize;
     let old = area[at];
     area[at] = ((word >> 40) % 256) as u8;
-    let next = read_at(area, begin, c, sum, live);
+    let next = read_at::<LIVE>(area, begin, c, sum);
     area[at] = old;
     next
 }
 
-fn read_step(b: Bench, word: u64, area: &mut [u8; 2048], sum: u64, live: bool) -> u64 {
-    let c = bench::parts::box_of(b, side(word));
-    if is_spoiled(word) {
-        return read_spoiled(area, word, c, sum, live);
-    }
-    read_at(area, start(word, frame_start(word)), c, sum, live)
-}
+// ---- the lists
 
-// ---- the list
-
-// The frames that a list of reads begins with, each of another bench.
+// The frames that a list of reads begins with, each of another bench, as far as they are accepted.
 fn fill(area: &mut [u8; 2048], seed: u64) {
-    let mut word = crate::list::first(seed);
-    let mut i: usize = 0;
-    while i < 107 {
-        word = crate::list::shuffled(word);
-        frames::write(bench_of(word), ((word >> 16) % 2) as u32, area, i * 19);
-        i += 1;
+    let mut word = list::first(seed);
+    for i in 0..107 {
+        word = list::shuffled(word);
+        let _ = frames::write(bench_of(word), ((word >> 16) % 2) as u32, area, i * 19);
     }
 }
 
-// All bytes of the area in the sum.
-fn fold_area(sum: u64, area: &[u8; 2048]) -> u64 {
-    let mut next = sum;
-    let mut i: usize = 0;
-    while i < 2048 {
-        next = crate::checksum::fold(next, crate::checksum::wide_byte(area[i]));
-        i += 1;
-    }
-    next
-}
-
-// One write or read.
-fn step(b: Bench, reads: bool, word: u64, area: &mut [u8; 2048], sum: u64, live: bool) -> u64 {
-    if reads {
-        return read_step(b, word, area, sum, live);
-    }
-    write_step(b, word, area, sum, live)
-}
-
-// The steps of a list, over an area as it is; the checksum.
-fn run_steps(area: &mut [u8; 2048], seed: u64, calls: u64, reads: bool, live: bool) -> u64 {
-    let mut b = crate::list::first_bench();
-    let mut sum: u64 = 0;
-    let mut word = crate::list::first(seed);
-    let mut left = calls;
-    while 0 < left {
+// The steps of a list, over an area as it is. Answers the checksum, with the area at the end in it.
+fn run_steps<F: FnMut(&mut [u8; 2048], Bench, u64, Sum) -> Sum>(
+    mut area: [u8; 2048],
+    seed: u64,
+    calls: u64,
+    mut step: F,
+) -> Sum
+    requires { (f : _) (part : _) (b : _) (word : _) (sum : _) → F.pre f part b word sum }
+{
+    let mut b = list::first_bench();
+    let mut sum = Sum(0);
+    let mut word = list::first(seed);
+    for left in (1..=calls).rev() {
         if left % 64 == 0 {
             b = bench_of(word);
-            sum = crate::checksum::fold_bench(sum, b);
+            sum = sum.with_bench(b);
         }
-        sum = step(b, reads, word, area, sum, live);
-        word = crate::list::shuffled(word);
-        left -= 1;
+        sum = step(&mut area, b, word, sum);
+        word = list::shuffled(word);
     }
-    sum
+    area.iter()
+        .fold(sum, |sum, byte| sum.with(u64::from(*byte)))
 }
 
-// A whole list of frames. Answers the checksum, with the area at the end in it.
-pub(crate) fn run_list(seed: u64, calls: u64, reads: bool, live: bool) -> u64 {
-    let mut area = [0u8; 2048];
-    if reads {
-        fill(&mut area, seed);
-    }
-    let sum = run_steps(&mut area, seed, calls, reads, live);
-    fold_area(sum, &area)
+pub(crate) fn write_list<const LIVE: bool>(seed: u64, calls: u64) -> Sum {
+    run_steps([0; 2048], seed, calls, write_step::<LIVE>)
+}
+
+pub(crate) fn read_list<const LIVE: bool>(seed: u64, calls: u64) -> Sum {
+    let mut area = [0; 2048];
+    fill(&mut area, seed);
+    run_steps(area, seed, calls, read_step::<LIVE>)
 }

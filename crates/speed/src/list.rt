@@ -1,14 +1,13 @@
-// The list: the bench that it begins with, a pseudo-random word for each call, and the kind and the
-// arguments that a word gives.
+// The list: the bench that it begins with, a pseudo-random word for each call, and the call that a
+// word gives.
 ghost use Rattle.std.specs.Prelude.{◌<◌, ◌≤◌};
 
 use bench::{Bench, Reading};
+use calls::call::Call;
 
 // The bench that a list begins with. The baseline powers on at 90 knots.
 pub(crate) fn first_bench() -> Bench {
-    let s = bench::start(90);
-    let b = s.bench;
-    b
+    bench::start(90).bench
 }
 
 // The word after a word: Marsaglia's xorshift by 13, 7 and 17, which goes through all words but 0.
@@ -25,13 +24,14 @@ pub(crate) fn first(seed: u64) -> u64 {
 
 // A call's kind: the chosen one, but at each eighth call, and where 6 is chosen at every one, the
 // word's own. 0 event, 1 turn, 2 reading, 3 send, 4 refresh, 5 display.
+// Stays: an argument of the program gives it as a number, and as one it joins the checksum.
 pub(crate) fn kind(word: u64, left: u64, chosen: u64) -> u64
     ensures { result < 6 }
 {
-    if left % 8 == 0 {
+    if left % 8 == 0 || 6 <= chosen {
         return word % 6;
     }
-    if chosen < 6 { chosen } else { word % 6 }
+    chosen
 }
 
 // One in 64 of the words gives an argument that is out of the usual.
@@ -39,26 +39,33 @@ pub(crate) fn is_rare(word: u64) -> bool {
     (word >> 8) % 64 == 0
 }
 
-// The event of a word's own: one of the 20 bits.
-fn one_bit(word: u64) -> u32 {
-    1 << ((word >> 16) % 20)
+// The call of a kind that a word gives.
+pub(crate) fn call_of(kind: u64, word: u64) -> Call {
+    match kind {
+        0 => Call::Event(event_word(word)),
+        1 => Call::Turn(knob(word), ((word >> 24) % 256) as u8),
+        2 => Call::Reading(reading(word)),
+        3 => Call::Send(side(word)),
+        4 => Call::Refresh(side(word)),
+        _ => Call::Display(side(word)),
+    }
 }
 
-// An event word: mostly one bit; rarely none or many, a bit that no event has among them.
-pub(crate) fn event_word(word: u64) -> u32 {
-    if is_rare(word) {
-        let many = (word >> 20) % 4294967296;
-        return match (word >> 16) % 4 {
-            0 => 0,
-            1 => many as u32,
-            _ => (many % 1048576) as u32,
-        };
+// An event word: mostly one of the 20 bits; rarely none or many, a bit that no event has among them.
+fn event_word(word: u64) -> u32 {
+    if !is_rare(word) {
+        return 1 << ((word >> 16) % 20);
     }
-    one_bit(word)
+    let many = (word >> 20) % 4294967296;
+    match (word >> 16) % 4 {
+        0 => 0,
+        1 => many as u32,
+        _ => (many % 1048576) as u32,
+    }
 }
 
 // A knob's number, rarely one that no knob has.
-pub(crate) fn knob(word: u64) -> u32
+fn knob(word: u64) -> u32
     ensures { result ≤ 4 }
 {
     if is_rare(word) {
@@ -68,13 +75,8 @@ pub(crate) fn knob(word: u64) -> u32
     }
 }
 
-// A knob's new count.
-pub(crate) fn count(word: u64) -> u8 {
-    ((word >> 24) % 256) as u8
-}
-
 // A side's number, rarely one that no side has.
-pub(crate) fn side(word: u64) -> u32
+fn side(word: u64) -> u32
     ensures { result ≤ 2 }
 {
     if is_rare(word) {
@@ -84,16 +86,34 @@ pub(crate) fn side(word: u64) -> u32
     }
 }
 
-// Which of the six readings a word gives.
-pub(crate) fn reading_kind(word: u64) -> u64
-    ensures { result < 6 }
-{
-    (word >> 16) % 6
+// One of the six readings, from two below its range to two above it, or rarely any.
+fn reading(word: u64) -> Reading {
+    match (word >> 16) % 6 {
+        0 => Reading::Altitude(value(-8002.0, 64004, word)),
+        1 => Reading::Airspeed(value(-2.0, 604, word)),
+        2 => Reading::VerticalSpeed(value(-302.0, 604, word)),
+        3 => Reading::Roll(value(-182.0, 363, word)),
+        4 => Reading::Pitch(value(-92.0, 183, word)),
+        _ => Reading::Heading(value(-2.0, 363, word)),
+    }
 }
 
-// low + whole + eighths / 8, which a float holds exactly.
-pub(crate) fn in_eighths(low: f64, whole: u32, eighths: u32) -> f64 {
-    low + whole as f64 + eighths as f64 / 8.0
+fn value(low: f64, wholes: u32, word: u64) -> f64
+    requires { 0 < wholes }
+{
+    if is_rare(word) {
+        return rare_value(word);
+    }
+    in_eighths(low, wholes, word >> 16)
+}
+
+// One of so many whole numbers from low on and some eighths, which a float holds exactly.
+pub(crate) fn in_eighths(low: f64, wholes: u32, word: u64) -> f64
+    requires { 0 < wholes }
+{
+    let eighths = ((word >> 4) % 8) as u32;
+    let whole = ((word >> 8) % u64::from(wholes)) as u32;
+    low + f64::from(whole) + f64::from(eighths) / 8.0
 }
 
 // A float of any pattern, or infinity, or no number.
@@ -102,35 +122,5 @@ fn rare_value(word: u64) -> f64 {
         0 => 1.0 / 0.0,
         1 => 0.0 / 0.0,
         _ => number_forms::from_pattern(shuffled(word)),
-    }
-}
-
-// The float of a reading: one from two below the range to two above it, in steps of an eighth, or
-// rarely any.
-pub(crate) fn value(kind: u64, word: u64) -> f64 {
-    if is_rare(word) {
-        return rare_value(word);
-    }
-    let eighths = ((word >> 20) % 8) as u32;
-    let whole = word >> 24;
-    match kind {
-        0 => in_eighths(-8002.0, (whole % 64004) as u32, eighths),
-        1 => in_eighths(-2.0, (whole % 604) as u32, eighths),
-        2 => in_eighths(-302.0, (whole % 604) as u32, eighths),
-        3 => in_eighths(-182.0, (whole % 363) as u32, eighths),
-        4 => in_eighths(-92.0, (whole % 183) as u32, eighths),
-        _ => in_eighths(-2.0, (whole % 363) as u32, eighths),
-    }
-}
-
-// The reading of a kind with a float.
-pub(crate) fn reading_of(kind: u64, x: f64) -> Reading {
-    match kind {
-        0 => Reading::Altitude(x),
-        1 => Reading::Airspeed(x),
-        2 => Reading::VerticalSpeed(x),
-        3 => Reading::Roll(x),
-        4 => Reading::Pitch(x),
-        _ => Reading::Heading(x),
     }
 }

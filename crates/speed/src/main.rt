@@ -12,163 +12,90 @@ mod checksum;
 mod list;
 
 use bench::Bench;
+use bench::answers::Answer;
+use calls::call::Call;
+use checksum::{Sum, Told};
 use std::io;
 use std::rt::Env;
 
-// The bench after some calls, and the checksum of their answers.
+// The bench after some calls, and the checksum of their arguments and answers.
 #[derive(Clone, Copy)]
 struct Run {
     bench: Bench,
-    sum: u64,
+    sum: Sum,
 }
 
-// A bench and a sum together.
-fn run_on(b: Bench, sum: u64) -> Run {
-    Run { bench: b, sum }
-}
-
-// An event word. Where `live` is false no call is made, here and below, and the answer counts as 0.
-fn do_event(b: Bench, word: u32, sum: u64, live: bool) -> Run {
-    let with_word = checksum::fold(sum, checksum::wide(word));
-    if !live {
-        return run_on(b, checksum::fold(with_word, 0));
-    }
-    let a = calls::event(b, word);
-    let next = a.bench;
-    run_on(
-        next,
-        checksum::fold(with_word, checksum::pair(a.refusal, a.event)),
-    )
-}
-
-// A knob's new count.
-fn do_turn(b: Bench, knob: u32, new: u8, sum: u64, live: bool) -> Run {
-    let with_turn = checksum::fold(sum, checksum::turn_code(knob, new));
-    if !live {
-        return run_on(b, checksum::fold(with_turn, 0));
-    }
-    let a = calls::turn(b, knob, new);
-    let next = a.bench;
-    run_on(next, checksum::fold(with_turn, checksum::wide(a.refusal)))
-}
-
-// A reading of a kind with a float.
-fn do_reading(b: Bench, kind: u64, x: f64, sum: u64, live: bool) -> Run {
-    let with_kind = checksum::fold(sum, kind);
-    let with_value = checksum::fold(with_kind, checksum::float_code(x));
-    if !live {
-        return run_on(b, checksum::fold(with_value, 0));
-    }
-    let a = calls::reading(b, list::reading_of(kind, x));
-    let next = a.bench;
-    run_on(next, checksum::fold(with_value, checksum::wide(a.refusal)))
-}
-
-// A send of a side.
-fn do_send(b: Bench, side: u32, sum: u64, live: bool) -> Run {
-    let with_side = checksum::fold(sum, checksum::wide(side));
-    if !live {
-        return run_on(b, checksum::fold(with_side, 0));
-    }
-    let a = calls::send(b, side);
-    let next = a.bench;
-    run_on(next, checksum::fold(with_side, checksum::wide(a.refusal)))
-}
-
-// A refresh of a side.
-fn do_refresh(b: Bench, side: u32, sum: u64, live: bool) -> Run {
-    let with_side = checksum::fold(sum, checksum::wide(side));
-    if !live {
-        return run_on(b, checksum::fold(with_side, 0));
-    }
-    let a = calls::refresh(b, side);
-    let next = a.bench;
-    run_on(next, checksum::fold(with_side, checksum::wide(a.refusal)))
-}
-
-// A display of a side.
-fn do_display(b: Bench, side: u32, sum: u64, live: bool) -> Run {
-    let with_side = checksum::fold(sum, checksum::wide(side));
-    if !live {
-        return run_on(b, checksum::fold_zeros(with_side));
-    }
-    let a = calls::display(b, side);
-    let next = a.bench;
-    let d = a.display;
-    run_on(next, checksum::fold_display(with_side, a.refusal, d))
-}
-
-// One call of a kind, with the arguments that the list's word gives it.
-fn step(b: Bench, kind: u64, word: u64, sum: u64, live: bool) -> Run {
-    match kind {
-        0 => do_event(b, list::event_word(word), sum, live),
-        1 => do_turn(b, list::knob(word), list::count(word), sum, live),
-        2 => {
-            let which = list::reading_kind(word);
-            do_reading(b, which, list::value(which, word), sum, live)
+impl Run {
+    // One more call. Where LIVE is false no call is made, here and below.
+    fn step<const LIVE: bool>(&mut self, call: Call) {
+        self.sum = self.sum.with_call(call);
+        if !LIVE {
+            self.sum = self.sum.with_no_answer(call);
+            return;
         }
-        3 => do_send(b, list::side(word), sum, live),
-        4 => do_refresh(b, list::side(word), sum, live),
-        _ => do_display(b, list::side(word), sum, live),
+        match call {
+            Call::Event(word) => self.take(calls::event(self.bench, word)),
+            Call::Turn(knob, new) => self.take(calls::turn(self.bench, knob, new)),
+            Call::Reading(r) => self.take(calls::reading(self.bench, r)),
+            Call::Send(side) => self.take(calls::send(self.bench, side)),
+            Call::Refresh(side) => self.take(calls::refresh(self.bench, side)),
+            Call::Display(side) => self.take(calls::display(self.bench, side)),
+        }
+    }
+
+    fn take<T: Told + Copy>(&mut self, answer: Answer<T>) {
+        self.sum = T::told(self.sum, &answer);
+        self.bench = answer.bench;
     }
 }
 
 // The whole list, from its first bench. Answers the checksum, with the bench at the end in it. The kind of
 // each call is in the sum too.
-fn run_list(seed: u64, calls: u64, chosen: u64, live: bool) -> u64 {
-    let start = list::first_bench();
-    let mut s = run_on(start, 0);
+fn run_list<const LIVE: bool>(seed: u64, calls: u64, chosen: u64) -> Sum {
+    let mut run = Run {
+        bench: list::first_bench(),
+        sum: Sum(0),
+    };
     let mut word = list::first(seed);
-    let mut left = calls;
-    while 0 < left {
-        let b = s.bench;
+    for left in (1..=calls).rev() {
         let kind = list::kind(word, left, chosen);
-        s = step(b, kind, word, s.sum ^ (kind << 60), live);
+        run.sum = Sum(run.sum.0 ^ (kind << 60));
+        run.step::<LIVE>(list::call_of(kind, word));
         word = list::shuffled(word);
-        left -= 1;
     }
-    let end = s.bench;
-    checksum::fold_bench(s.sum, end)
+    run.sum.with_bench(run.bench)
 }
 
 // One more digit of a number in decimal. What is no digit is passed over, and so is what would
 // make the number larger than 64 bits hold.
+// Stays: u64's parse refuses what is passed over here.
 fn with_digit(value: u64, digit: u8) -> u64 {
     if 100000000000000000 < value {
         return value;
     }
     match digit {
-        b'0'..=b'9' => value * 10 + checksum::wide_byte(digit - b'0'),
+        b'0'..=b'9' => value * 10 + u64::from(digit - b'0'),
         _ => value,
     }
 }
 
-// The number that the digits among some bytes make.
-fn number_in(text: &[u8]) -> u64 {
-    let mut value: u64 = 0;
-    let mut i = 0;
-    while i < text.len() {
-        value = with_digit(value, text[i]);
-        i += 1;
-    }
-    value
-}
-
-// An argument as a number; 0 where it is missing or has more than 20 bytes.
+// An argument as the number that its digits make; 0 where it is missing or has more than 20 bytes.
 fn argument(rt: &impl Env, i: usize) -> u64 {
     let mut text = [0u8; 20];
     match rt.arg(i, &mut text) {
-        Ok(n) => number_in(&text[..n]),
+        Ok(n) => text[..n]
+            .iter()
+            .fold(0, |value, digit| with_digit(value, *digit)),
         Err(_) => 0,
     }
 }
 
 // The checksum of a list of calls, or of frames.
-fn sum_of(seed: u64, calls: u64, chosen: u64, live: bool) -> u64 {
+fn sum_of<const LIVE: bool>(seed: u64, calls: u64, chosen: u64) -> Sum {
     match chosen {
-        7 => bus::run_list(seed, calls, false, live),
-        8 => bus::run_list(seed, calls, true, live),
-        _ => run_list(seed, calls, chosen, live),
+        7 => bus::write_list::<LIVE>(seed, calls),
+        8 => bus::read_list::<LIVE>(seed, calls),
+        _ => run_list::<LIVE>(seed, calls, chosen),
     }
 }
 
@@ -177,7 +104,9 @@ fn main(rt: HostRuntime) -> io::Result<()> {
     let seed = argument(&rt, 1);
     let calls = argument(&rt, 2);
     let chosen = argument(&rt, 3);
-    let live = argument(&rt, 4);
-    let sum = sum_of(seed, calls, chosen, live == 1);
+    let Sum(sum) = match argument(&rt, 4) {
+        1 => sum_of::<true>(seed, calls, chosen),
+        _ => sum_of::<false>(seed, calls, chosen),
+    };
     println!(rt; "{sum}")
 }

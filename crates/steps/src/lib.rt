@@ -1,16 +1,17 @@
 // The three steps of an event, and entry.
 #![tactic(auto)]
 
-ghost use Rattle.std.specs.Prelude.{◌≡◌};
+ghost use Rattle.std.specs.Prelude.{◌≡◌, ℕ};
 ghost use Rattle.modes.specs.Events.{line_of};
-ghost use Rattle.bench.specs.Sides.{where_acting};
+ghost use Rattle.bench.specs.declared.Bench.{Bench};
+ghost use Rattle.bench.specs.Sides.{where_acting, on_acting};
 ghost use Rattle.bench.specs.Independent.{begun};
 ghost use Rattle.steps.specs.Entry.{loaded, entry, settled};
 ghost use Rattle.steps.specs.Private.{lateral_entry, vertical_entry};
 ghost use Rattle.steps.specs.Steps.{shared_after, toggled_fd, asks_for, fd_after, with_fd_after, first_step, is_on, coming_on, second_step, third_step, later_steps, three_steps, acted};
 
 use bench::parts::{HELD, IAS, PITCH, ROLL, VERTICAL_SPEED, box_of, with_box};
-use bench::{Bench, References, Shared, Wholes, side_acts};
+use bench::{Bench, Channel, References, Shared, Wholes, side_acts};
 use modes::numbers::{lateral_law, vertical_law};
 use modes::{Event, ModeSet};
 
@@ -27,11 +28,9 @@ fn load(r: References, place: u32, whole: i32) -> References
 fn enter_lateral(k: Wholes, was: u32, law: u32, r: References) -> References
     ensures { result ≡ lateral_entry k was law r }
 {
-    match law {
-        1 => match was {
-            1 => r,
-            _ => load(r, ROLL, k.roll),
-        },
+    match (law, was) {
+        (1, 1) => r,
+        (1, _) => load(r, ROLL, k.roll),
         _ => r,
     }
 }
@@ -41,23 +40,12 @@ fn enter_lateral(k: Wholes, was: u32, law: u32, r: References) -> References
 fn enter_vertical(k: Wholes, was: u32, law: u32, r: References) -> References
     ensures { result ≡ vertical_entry k was law r }
 {
-    match law {
-        1 => match was {
-            1 => r,
-            _ => load(r, PITCH, k.pitch),
-        },
-        2 => match was {
-            2 => r,
-            _ => load(r, VERTICAL_SPEED, k.vertical_speed),
-        },
-        3 => match was {
-            3 => r,
-            _ => load(r, IAS, k.airspeed),
-        },
-        4 => match was {
-            4 => r,
-            _ => load(r, HELD, k.altitude),
-        },
+    match (law, was) {
+        (1, 1) | (2, 2) | (3, 3) | (4, 4) => r,
+        (1, _) => load(r, PITCH, k.pitch),
+        (2, _) => load(r, VERTICAL_SPEED, k.vertical_speed),
+        (3, _) => load(r, IAS, k.airspeed),
+        (4, _) => load(r, HELD, k.altitude),
         _ => r,
     }
 }
@@ -72,17 +60,18 @@ pub fn enter_references(k: Wholes, before: ModeSet, after: ModeSet, r: Reference
 }
 
 // A side takes another set, with entry.
-#[tactic(auto, unfolding(crate::specs::Entry::enter, crate::specs::Entry::settled))]
+#[tactic(auto, unfolding(crate::specs::Entry::enter, crate::specs::Entry::settled, bench::specs::Parts::with_set, bench::specs::Parts::with_references))]
 pub fn settle(b: Bench, side: u32, after: ModeSet) -> Bench
     ensures { result ≡ settled after side b }
 {
     let c = box_of(b, side);
-    let before = c.set;
-    let was = c.references;
-    let wholes = b.wholes;
-    let references = enter_references(wholes, before, after, was);
-    let next = bench::parts::with_set(c, after);
-    with_box(b, side, bench::parts::with_references(next, references))
+    let references = enter_references(b.wholes, c.set, after, c.references);
+    let next = Channel {
+        set: after,
+        references,
+        ..c
+    };
+    with_box(b, side, next)
 }
 
 // AP, flag and PF after an event. A transfer ends independent operation.
@@ -92,8 +81,7 @@ fn shared_after(e: Event, s: Shared) -> Shared
 {
     let ap = events::ap_after(e, s.ap);
     let overspeed = events::overspeed_after(e, s.overspeed);
-    let moves = events::transfers(e);
-    if moves {
+    if events::transfers(e) {
         Shared {
             pf: bench::other_side(s.pf),
             ap,
@@ -101,32 +89,26 @@ fn shared_after(e: Event, s: Shared) -> Shared
             independent: false,
         }
     } else {
-        Shared {
-            pf: s.pf,
-            ap,
-            overspeed,
-            independent: s.independent,
-        }
+        Shared { ap, overspeed, ..s }
     }
 }
 
 // Whether a side acts and an event sets its FD On.
+// Stays: event, side and bench come one by one, as in the definitions. A struct of two of them would be
+// made before each call and taken apart in each body.
 #[tactic(auto, unfolding(crate::specs::Steps::asks_for))]
 fn asks_for(e: Event, side: u32, b: Bench) -> bool
     ensures { result ≡ asks_for e side b }
 {
-    let shared = b.shared;
     let c = box_of(b, side);
-    let set = c.set;
-    let asks = events::asks_fd(e, shared.ap, shared.overspeed, set);
-    side_acts(b, side) & asks
+    side_acts(b, side) & events::asks_fd(e, b.shared.ap, b.shared.overspeed, c.set)
 }
 
 // A pressed FD that is On goes Off only with the flag clear.
 fn toggle(flag: bool, fd: bool) -> bool
     ensures { result ≡ toggled_fd flag fd }
 {
-    if fd { flag } else { true }
+    !fd | flag
 }
 
 // A side's FD after the first step.
@@ -134,32 +116,34 @@ fn toggle(flag: bool, fd: bool) -> bool
 fn fd_after(e: Event, side: u32, b: Bench) -> bool
     ensures { result ≡ fd_after e side b }
 {
-    let shared = b.shared;
     let c = box_of(b, side);
-    let pressed = events::fd_pressed(e, side);
-    if pressed {
-        return toggle(shared.overspeed, c.fd);
+    if events::fd_pressed(e, side) {
+        return toggle(b.shared.overspeed, c.fd);
     }
-    let acts = side_acts(b, side);
-    c.fd | (acts & (asks_for(e, 0, b) | asks_for(e, 1, b)))
+    c.fd | (side_acts(b, side) & (asks_for(e, 0, b) | asks_for(e, 1, b)))
 }
 
 // The bench `next` with a side's FD as an event leaves it, judged on `b`.
-#[tactic(auto, unfolding(crate::specs::Steps::with_fd_after))]
+#[tactic(auto, unfolding(crate::specs::Steps::with_fd_after, bench::specs::Parts::with_fd))]
 fn with_fd_after(e: Event, side: u32, b: Bench, next: Bench) -> Bench
     ensures { result ≡ with_fd_after e side b next }
 {
-    let c = box_of(b, side);
-    with_box(next, side, bench::parts::with_fd(c, fd_after(e, side, b)))
+    let c = Channel {
+        fd: fd_after(e, side, b),
+        ..box_of(b, side)
+    };
+    with_box(next, side, c)
 }
 
 // The first step: both FDs and the shared part, decided from the bench that came.
-#[tactic(auto, unfolding(crate::specs::Steps::first_step))]
+#[tactic(auto, unfolding(crate::specs::Steps::first_step, bench::specs::Parts::with_shared))]
 fn first_step(e: Event, b: Bench) -> Bench
     ensures { result ≡ first_step e b }
 {
-    let was = b.shared;
-    let next = bench::parts::with_shared(b, shared_after(e, was));
+    let next = Bench {
+        shared: shared_after(e, b.shared),
+        ..b
+    };
     let right = with_fd_after(e, 1, b, next);
     with_fd_after(e, 0, b, right)
 }
@@ -178,10 +162,9 @@ fn coming_on(s: ModeSet) -> ModeSet
 fn is_on(side: u32, b: Bench) -> bool
     ensures { result ≡ is_on side b }
 {
-    let shared = b.shared;
     let c = box_of(b, side);
     let sent = box_of(b, bench::parts::inbox_of(side));
-    c.fd | sent.fd | shared.ap
+    c.fd | sent.fd | b.shared.ap
 }
 
 // The set of a side by the On rule.
@@ -190,9 +173,11 @@ pub fn second_step(side: u32, b: Bench) -> ModeSet
     ensures { result ≡ second_step side b }
 {
     let c = box_of(b, side);
-    let set = c.set;
-    let on = is_on(side, b);
-    if on { coming_on(set) } else { ModeSet::Off }
+    if is_on(side, b) {
+        coming_on(c.set)
+    } else {
+        ModeSet::Off
+    }
 }
 
 #[tactic(auto, unfolding(crate::specs::Steps::third_step))]
@@ -205,17 +190,48 @@ fn third_step(e: Event, flag: bool, s: ModeSet) -> ModeSet
     }
 }
 
-// The second and the third step of a side that acts, with entry; another side is left as it is.
-#[tactic(auto, unfolding(crate::specs::Steps::later_steps))]
-fn later_steps(e: Event, flag: bool, side: u32, b: Bench) -> Bench
-    ensures { result ≡ where_acting (later_steps e flag) side b }
+// A change of one side of a bench.
+pub trait SideChange: Copy {
+    ghost changed: { Self → ℕ → Bench → Bench };
+
+    fn change(self, side: u32, b: Bench) -> Bench
+        ensures { result ≡ changed self side b };
+}
+
+// A change made on a side that acts; another side is left as it is.
+fn where_acting<S: SideChange>(step: S, side: u32, b: Bench) -> Bench
+    ensures { result ≡ where_acting (S.changed step) side b }
 {
-    let acts = side_acts(b, side);
-    if acts {
-        let on = second_step(side, b);
-        settle(b, side, third_step(e, flag, on))
+    if side_acts(b, side) {
+        step.change(side, b)
     } else {
         b
+    }
+}
+
+// A change made on each side that acts, left first. It is a trait's method and no closure, since a
+// closure has to be callable, and no public function here asks anything of its callers.
+pub fn on_acting<S: SideChange>(step: S, b: Bench) -> Bench
+    ensures { result ≡ on_acting (S.changed step) b }
+{
+    let left = where_acting(step, 0, b);
+    where_acting(step, 1, left)
+}
+
+// The second and the third step, with entry: of an event, with the overspeed flag as handed in.
+#[derive(Clone, Copy)]
+struct LaterSteps {
+    event: Event,
+    overspeed: bool,
+}
+
+impl SideChange for LaterSteps {
+    ghost changed = { λ s. later_steps s.event s.overspeed };
+
+    #[tactic(auto, unfolding(crate::specs::Steps::later_steps))]
+    fn change(self, side: u32, b: Bench) -> Bench {
+        let on = second_step(side, b);
+        settle(b, side, third_step(self.event, self.overspeed, on))
     }
 }
 
@@ -224,10 +240,11 @@ fn later_steps(e: Event, flag: bool, side: u32, b: Bench) -> Bench
 fn three_steps(e: Event, b: Bench) -> Bench
     ensures { result ≡ three_steps e b }
 {
-    let shared = b.shared;
-    let first = first_step(e, b);
-    let left = later_steps(e, shared.overspeed, 0, first);
-    later_steps(e, shared.overspeed, 1, left)
+    let later = LaterSteps {
+        event: e,
+        overspeed: b.shared.overspeed,
+    };
+    on_acting(later, first_step(e, b))
 }
 
 // Independent operation goes on if both sides have LAPPR and VAPPR engaged.
@@ -235,8 +252,7 @@ fn three_steps(e: Event, b: Bench) -> Bench
 fn begin_independent(b: Bench) -> Bench
     ensures { result ≡ begun b }
 {
-    let both = bench::both_approach(b);
-    if both {
+    if bench::both_approach(b) {
         bench::parts::with_operation(b, true)
     } else {
         b

@@ -10,7 +10,7 @@ use lib.ListN.{length, get_or, drop, take-append-drop, length-take}
 use lib.Seq.{get_or-take}
 use Rattle.words.specs.Words.{run, is_space, leading, place_of, up_to, past_spaces, first_word, past_word, rest, word_of, same_bytes, lookup_of}
 use Rattle.words.specs.Laws.{IsFirst, WordLaws, Example}
-use Rattle.words.proofs.Names.{same_refl, same_true}
+use lib.Pointwise.{bytes_decides}
 
 -- ---- a run
 
@@ -65,11 +65,11 @@ lookup_first w names (suc n) = go (same_bytes w (first_word names)) refl (lookup
     later j = ap first_word (sym (rest_past j names))
 
     go : {k : ℕ} (q : Bool) → same_bytes w (first_word names) ≡ q → IsFirst w (past_word names) n k → IsFirst w names (suc n) (cond q 0 (suc k))
-    go true e f = record { within = omega arith; is = λ h. sym (same_true w (first_word names) e); before = λ j h. absurd (not-suc-le-zero h) }
+    go true e f = record { within = omega arith; is = λ h. sym ((bytes_decides w (first_word names)).0 e); before = λ j h. absurd (not-suc-le-zero h) }
     go {k} false e f = record { within = omega arith; is = λ h. later k ∙ f.is (le_of_suc-le-suc h); before = first }
       where
         first : (j : ℕ) → j < suc k → word_of names j ≡ w → ⊥
-        first zero h g = false≢true (sym e ∙ rw g (same_refl w))
+        first zero h g = false≢true (sym e ∙ rw g ((bytes_decides w w).1 refl))
         first (suc j) h g = f.before j (le_of_suc-le-suc h) (sym (later j) ∙ g)
 
 -- ---- all of them

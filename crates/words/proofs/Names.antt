@@ -1,41 +1,7 @@
--- For `lookup`: same_bytes tells whether two lists are equal, and a walk past the names that are not w. Assumes nothing.
-use mathlib.Core.Path.{◌≡◌, refl, sym, ◌∙◌}
-use mathlib.Core.Bool.{Bool, true, false, and-eq-true_iff, false≢true}
-use mathlib.Core.List.{List, [], ◌∷◌}
-use Prim.Native.Nat.{ℕ, suc, ◌+◌, ◌-◌, ◌≤◌, ◌<◌}
+-- For `lookup`: a walk past the names that are not w. Assumes nothing.
+use Rattle.std.proofs.Common.{◌≡◌, ℕ, suc, ◌+◌, ◌-◌, ◌≤◌, ◌<◌, true, false, List, arith, add-one}
 use native.Mathlib.Nat.{sub-zero}
-use native.Mathlib.Numerals.{add-one}
-use native.Mathlib.Omega.{arith}
-use borrow.Author.Tests.{eq-eqb, eqb-true}
-use lib.Dec.{eqb}
 use Rattle.words.specs.Words.{same_bytes, word_of, rest, lookup_of}
-
--- ---- same_bytes tells whether two lists are equal
-
-pub same_refl : (s : List ℕ) → same_bytes s s ≡ true
-same_refl [] = refl
-same_refl (a ∷ s) = rw (eq-eqb a a refl, same_refl s)
-
-pub same_true : (s t : List ℕ) → same_bytes s t ≡ true → s ≡ t
-same_true [] [] e = refl
-same_true [] (b ∷ t) e = absurd (false≢true e)
-same_true (a ∷ s) [] e = absurd (false≢true e)
-same_true (a ∷ s) (b ∷ t) e =
-    let h = (and-eq-true_iff (eqb a b) (same_bytes s t)).0 e in
-    let x = eqb-true a b h.0 in
-    let y = same_true s t h.1 in
-    cc
-
--- what `check::same` ensures of its answer, where t is u
-pub same_is : (q : Bool) {s t u : List ℕ} → (q ≡ true → s ≡ t) × (s ≡ t → q ≡ true) → t ≡ u → same_bytes s u ≡ q
-same_is true {s} {t} {u} f e = rw (f.0 refl ∙ e) (same_refl u)
-same_is false {s} {t} {u} f e = go (same_bytes s u) refl
-  where
-    go : (q : Bool) → same_bytes s u ≡ q → q ≡ false
-    go true h = sym (f.1 (same_true s u h ∙ sym e))
-    go false h = refl
-
--- ---- the loop
 
 -- i names are passed, and none of them is w
 pub record PassedNames (w names : List ℕ) (total i : ℕ) : Type 0 where

@@ -1,5 +1,6 @@
 -- The words of a text, which is a list of bytes: the runs of bytes that are no spaces. The console's page, 'Script'.
-use Rattle.std.specs.Prelude.{ℕ, zero, suc, Bool, true, false, not, cond, ◌&&◌, ◌||◌, List, [], ◌∷◌, eqb, take, drop}
+use Rattle.std.specs.Prelude.{ℕ, zero, suc, Bool, true, false, not, cond, ◌||◌, List, [], ◌∷◌, eqb, take, drop}
+use Rattle.std.specs.Cmp.Lexicographic.{pointwise}
 
 -- how many bytes a text has in front of the first that a test does not hold of
 abbrev pub run : (ℕ → Bool) → List ℕ → ℕ
@@ -47,11 +48,9 @@ rest (suc n) text = past_word (rest n text)
 unfoldable pub word_of : List ℕ → ℕ → List ℕ
 word_of text n = first_word (rest n text)
 
+-- two texts are the same, byte by byte
 abbrev pub same_bytes : List ℕ → List ℕ → Bool
-same_bytes [] [] = true
-same_bytes [] (b ∷ bs) = false
-same_bytes (a ∷ s) [] = false
-same_bytes (a ∷ s) (b ∷ t) = eqb a b && same_bytes s t
+same_bytes s t = pointwise eqb s t
 
 -- the number of the first of total names that is w; total where none is. The names are the words of one text
 abbrev pub lookup_of : List ℕ → List ℕ → ℕ → ℕ

@@ -8,46 +8,28 @@ ghost use Rattle.words.specs.Words.{is_space, is_of, leading, place_of, up_to, p
 fn is_space(byte: u8) -> bool
     ensures { result ≡ is_space byte }
 {
-    (byte == b' ') | ((byte == b'\t') | (byte == b'\r'))
+    matches!(byte, b' ' | b'\t' | b'\r')
 }
 
 // Whether a byte is a space, where spaces are asked for, or is none, where they are not.
 fn is_of(spaces: bool, byte: u8) -> bool
     ensures { result ≡ is_of spaces byte }
 {
-    if spaces {
-        is_space(byte)
-    } else {
-        !is_space(byte)
-    }
+    is_space(byte) == spaces
 }
 
 // How many bytes a text starts with that are spaces, or that are none.
 fn length_of(spaces: bool, text: &[u8]) -> usize
     ensures { result ≡ leading spaces text.now }
 {
-    let mut count = 0;
-    while count < text.len() {
-        if !is_of(spaces, text[count]) {
-            return count;
-        }
-        count += 1;
-    }
-    count
+    text.iter().take_while(|b| is_of(spaces, **b)).count()
 }
 
 // Where a byte first stands in a text, or the text's length.
 pub fn place(text: &[u8], byte: u8) -> usize
     ensures { result ≡ place_of byte text.now }
 {
-    let mut at = 0;
-    while at < text.len() {
-        if text[at] == byte {
-            return at;
-        }
-        at += 1;
-    }
-    at
+    text.iter().position(|b| *b == byte).unwrap_or(text.len())
 }
 
 // The text up to the first such byte, or all of it.
@@ -85,15 +67,13 @@ fn past_word(text: &[u8]) -> &[u8]
 }
 
 // A text's word by its number, from 0.
+#[tactic(auto, unfolding(crate::specs::Words::word_of))]
 pub fn word(text: &[u8], n: usize) -> &[u8]
     ensures { result.now ≡ word_of text.now n }
 {
     let mut tail = text;
-    let mut passed = 0;
-    while passed < n {
-        let next = past_word(tail);
-        tail = next;
-        passed += 1;
+    for _ in 0..n {
+        tail = past_word(tail);
     }
     first_word(tail)
 }
@@ -103,12 +83,10 @@ pub fn word(text: &[u8], n: usize) -> &[u8]
 pub fn lookup(w: &[u8], names: &[u8], total: usize) -> usize
     ensures { result ≡ lookup_of w.now names.now total }
 {
-    let mut i = 0;
-    while i < total {
-        if check::same(w, word(names, i)) {
+    for i in 0..total {
+        if w == word(names, i) {
             return i;
         }
-        i += 1;
     }
     total
 }

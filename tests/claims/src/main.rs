@@ -199,7 +199,13 @@ fn path_of(piece: &str) -> Option<String> {
 /// What is wrong with the citation of a contract, if anything is.
 fn contract(tree: &Tree, piece: &str) -> Option<String> {
     let parts: Vec<&str> = piece.split("::").collect();
-    let (name, modules) = (parts[parts.len() - 1], &parts[1..parts.len() - 1]);
+    let (name, inner) = (parts[parts.len() - 1], &parts[1..parts.len() - 1]);
+    // a method stands in the braces of its type's impl, a level deeper
+    let of_type = |part: &&&str| part.starts_with(char::is_uppercase);
+    let (modules, depth) = match inner.last() {
+        Some(part) if of_type(&part) => (&inner[..inner.len() - 1], "    "),
+        _ => (inner, ""),
+    };
     let folder = format!("crates/{}/src", parts[0]);
     let program = tree.contains_key(&format!("{folder}/main.rt"));
     let file = match modules {
@@ -207,17 +213,32 @@ fn contract(tree: &Tree, piece: &str) -> Option<String> {
         _ => format!("{folder}/{}.rt", modules.join("/")),
     };
     let text = tree.get(&file).map_or("", String::as_str);
+    let level = |line: &str| line.len() - line.trim_start().len();
+    let deep = |line: &&str| program || level(line) == depth.len();
     let heads = |line: &&str| words(line).starts_with(&["fn"]) && ident(words(line)[1]) == name;
-    let mut lines = text.lines().skip_while(|line| !heads(line));
+    let owner = inner
+        .last()
+        .filter(of_type)
+        .map(|part| format!("impl {part} "));
+    let block = |line: &&str| {
+        owner
+            .as_ref()
+            .is_some_and(|owner| !line.starts_with(owner.as_str()))
+    };
+    let mut lines = text
+        .lines()
+        .skip_while(block)
+        .skip_while(|line| !(heads(line) && deep(line)));
     let Some(first) = lines.next() else {
         return Some(format!("no such function in {file}"));
     };
-    let last = |line: &str| line.ends_with('{') && !line.starts_with(' ');
+    let own = level(first);
+    let last = |line: &str| line.ends_with('{') && level(line) <= own;
     let mut clauses = lines.take_while(|line| !last(line)).map(str::trim_start);
     if last(first) || !clauses.any(|line| line.starts_with("ensures")) {
         return Some(format!("the function in {file} has no ensures"));
     }
-    let hidden = !program && !first.starts_with("pub ");
+    let hidden = !program && !first.trim_start().starts_with("pub ");
     hidden.then(|| format!("the function in {file} is not public"))
 }
 
@@ -387,6 +408,20 @@ fn hidden()
     ensures { 0 ≡ 0 }
 {
 }
+impl Other {
+    pub fn shown(&self) {
+    }
+}
+impl Held {
+    pub fn shown(&self) -> u8
+        ensures { result ≡ 1 }
+    {
+    }
+    fn kept(&self) -> u8
+        ensures { result ≡ 1 }
+    {
+    }
+}
 @crates/low/src/types.rt
 #[derive(Clone, Copy)]
 pub enum E {
@@ -441,6 +476,9 @@ run: random::run,
     fn contracts() {
         assert_eq!(faulty("contracts of `low::said`, `high::hidden`"), "");
         let text = "`low::silent`, `low::hidden`, `low::gone`, `low::types::said`, `gone::said`";
+        assert_eq!(faulty(text).split(' ').count(), 5);
+        assert_eq!(faulty("contracts of `low::Held::shown`"), "");
+        let text = "`low::Other::shown`, `low::Held::kept`, `low::Held::said`, `low::shown`, `low::Gone::shown`";
         assert_eq!(faulty(text).split(' ').count(), 5);
     }
 

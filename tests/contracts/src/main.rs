@@ -1,11 +1,14 @@
 //! Reads every Rattle source below the folder that it is given and lists the functions whose
 //! contract breaks a rule of the repository:
 //! - a public function has an `ensures`, and no `requires` and no ghost value; what only the crate's
-//!   own modules see, `pub(crate)`, is not public;
+//!   own modules see, `pub(crate)`, is not public, and a method that a trait asks for, with no body, is;
 //! - the `ensures` of a public function are equations that settle all that it answers: one on its
 //!   result, `result ≡ ..` or, of a reference, `result.now ≡ ..`, and one on what each `&mut` parameter
-//!   holds at the end, `x.new ≡ ..`. No right side mentions `result`, a `.new` or an `.exit`, since such
-//!   an equation may hold of every answer. `EXCEPTIONS` lists the functions that settle it otherwise;
+//!   and `&mut self` holds at the end, `x.new ≡ ..`. The result may stand under one of `FAITHFUL`, the definitions
+//!   that take an answer to the paper's numbers and never two answers to the same. No right side mentions
+//!   `result`, a `.new` or an `.exit`, since such an equation may hold of every answer. `EXCEPTIONS` lists the
+//!   functions that settle it otherwise;
+//! - an `impl From` says what it gives: `ghost from_gives = { λ x y. y ≡ .. }`, an equation of the same kind;
 //! - `result` is what the function returns: no parameter, no ghost value and no variable of a clause is
 //!   called so, since the result would be captured, and the contract would say nothing;
 //! - `≡` is that of the library's Prelude or of mathlib.Core.Path, and no `ghost use` gives `⌜`, `⌝`,
@@ -17,11 +20,36 @@ use std::{env, fs, process};
 
 /// Public functions whose `ensures` are no such equations, each with the reason why all that it
 /// answers is settled still.
-const EXCEPTIONS: &[(&str, &str)] = &[(
-    "replay::run_to",
-    "the record RanTo of replay/specs/Coded.antt has one equation for each of the two fields of the \
-     result, same_bench and same_reply, whose right sides leave the result out",
-)];
+const EXCEPTIONS: &[(&str, &str)] = &[
+    (
+        "replay::run_to",
+        "the record RanTo of replay/specs/Coded.antt has one equation for each of the two fields of the \
+         result, same_bench and same_reply, whose right sides leave the result out",
+    ),
+    (
+        "bench::feed::judge",
+        "the refusal's number is an equation, and tells every error from every other and from Ok; of Ok the second \
+         clause says that its value is the one that came",
+    ),
+    (
+        "frames::write",
+        "the refusal's number is an equation, and tells every error from every other and from Ok, which holds nothing",
+    ),
+];
+
+/// Definitions under which a result may stand in its equation, each with the theorem that says that different
+/// answers have different values.
+const FAITHFUL: &[(&str, &str)] = &[
+    ("as_started", "replay/specs/Told.antt: started"),
+    ("as_answer", "replay/specs/Told.antt: answer"),
+    ("as_event_answer", "replay/specs/Told.antt: event"),
+    ("as_display_answer", "replay/specs/Told.antt: display"),
+    ("as_picked", "promises/specs/Answers.antt: picked"),
+    ("as_read", "promises/specs/Answers.antt: read"),
+    ("as_ran", "replay/specs/Told.antt: ran"),
+    ("as_area_answer", "promises/specs/Answers.antt: area"),
+    ("as_taken", "promises/specs/Answers.antt: taken"),
+];
 
 /// The words that may stand before `fn`.
 const QUALIFIERS: [&str; 4] = ["pub", "pub(crate)", "extern", "\"C\""];
@@ -148,17 +176,35 @@ fn qualifiers(before: &str) -> Option<Vec<&str>> {
 
 fn parameters(text: &str) -> Vec<(String, String)> {
     let each = pieces(text, |c| c == ',').into_iter();
-    let pairs = each.filter_map(|piece| piece.split_once(':'));
-    let name = |name: &str| name.trim().trim_start_matches("mut ").trim().to_string();
-    pairs
-        .map(|(first, kind)| (name(first), kind.trim().to_string()))
-        .collect()
+    let pair = |piece: &str| {
+        // a method's self may be lent as any other parameter is
+        let words = piece.split_whitespace().collect::<Vec<_>>().join(" ");
+        if words == "&mut self" {
+            return Some(("self".to_string(), "&mut Self".to_string()));
+        }
+        let (name, kind) = piece.split_once(':')?;
+        let name = name.trim().trim_start_matches("mut ").trim();
+        Some((name.to_string(), kind.trim().to_string()))
+    };
+    each.filter_map(pair).collect()
 }
 
-/// The clauses that stand before a function's body.
-fn clauses(mut rest: &str) -> Option<Vec<Clause>> {
+/// Whether a semicolon, outside of brackets, comes before a brace.
+fn ends_at_once(rest: &str) -> bool {
+    let head = rest.split('{').next().unwrap_or("");
+    pieces(head, |c| c == ';').len() > 1
+}
+
+/// The clauses of a function, and whether a body follows them.
+fn clauses(mut rest: &str, in_trait: bool) -> Option<(Vec<Clause>, bool)> {
     let mut found = Vec::<Clause>::new();
     loop {
+        if !found.is_empty() && rest.trim_start().starts_with(';') {
+            return Some((found, false));
+        }
+        if found.is_empty() && in_trait && ends_at_once(rest) {
+            return Some((found, false));
+        }
         let brace = rest.find('{')?;
         let before = &rest[..brace];
         let words: Vec<&str> = before.split_whitespace().collect();
@@ -169,7 +215,7 @@ fn clauses(mut rest: &str) -> Option<Vec<Clause>> {
         let is_kind = |word: &&str| CLAUSES.contains(&word.trim_end_matches('*'));
         let Some(at) = words.iter().position(is_kind) else {
             let known = found.is_empty() || words.is_empty();
-            return known.then_some(found);
+            return known.then_some((found, true));
         };
         let name = words[at + 1..].join(" ");
         let named = name
@@ -186,6 +232,46 @@ fn clauses(mut rest: &str) -> Option<Vec<Clause>> {
     }
 }
 
+/// What follows the type parameters that a text begins with. The bound of a closure has an arrow.
+fn behind_generics(text: &str) -> Option<&str> {
+    let mut depth = 0;
+    for (at, c) in text.char_indices() {
+        match c {
+            '<' => depth += 1,
+            '>' if !text[..at].ends_with('-') => depth -= 1,
+            '{' | '}' => return None,
+            _ => {}
+        }
+        if depth == 0 {
+            return Some(&text[at + 1..]);
+        }
+    }
+    None
+}
+
+/// Whether a place stands in the braces of a trait.
+fn in_trait(before: &str) -> bool {
+    let is_trait = |line: &str| {
+        let mut words = line.split_whitespace();
+        let first = words.find(|word| !word.starts_with("pub"));
+        first == Some("trait")
+    };
+    // items begin at the left edge, and a brace there ends them
+    let edge = |line: &&str| line.starts_with(in_name) || line.starts_with('}');
+    before
+        .lines()
+        .filter(edge)
+        .next_back()
+        .is_some_and(is_trait)
+}
+
+/// Whether the trait that a function without a body is asked for by is public.
+fn of_public_trait(before: &str) -> bool {
+    let named = |line: &&str| line.split_whitespace().any(|word| word == "trait");
+    let line = before.lines().filter(named).next_back();
+    line.is_some_and(|line| line.trim_start().starts_with("pub trait "))
+}
+
 /// The head whose `fn` stands at a place of the text, if it can be read.
 fn head(text: &str, at: usize) -> Option<Head> {
     let before = text[..at].rsplit([';', '{', '}']).next()?;
@@ -193,17 +279,18 @@ fn head(text: &str, at: usize) -> Option<Head> {
     let rest = text[at + 2..].trim_start();
     let (name, mut rest) = rest.split_at(rest.find(|c| !in_name(c))?);
     if rest.starts_with('<') {
-        rest = bracketed(rest, '<', '>')?.1;
+        rest = behind_generics(rest)?;
     }
     let (inner, after) = bracketed(rest, '(', ')')?;
     let answer = after.trim_start().strip_prefix("->");
     let kind = |answer: &str| answer.split('{').next().unwrap_or("").trim().to_string();
+    let (clauses, body) = clauses(after, in_trait(&text[..at]))?;
     Some(Head {
         name: name.to_string(),
-        public: words.contains(&"pub"),
+        public: words.contains(&"pub") || !body && of_public_trait(&text[..at]),
         parameters: parameters(inner),
         answer: answer.map(kind),
-        clauses: clauses(after)?,
+        clauses,
     })
 }
 
@@ -295,17 +382,30 @@ fn equation(head: &Head, clause: &Clause) -> Option<String> {
     };
     let apart = left.ends_with(char::is_whitespace) && right.starts_with(char::is_whitespace);
     let left = left.replace(['«', '»'], "").trim().to_string();
+    // an ArrayVec is its items
+    let is_items = |name: &str| {
+        let named = |(known, kind): &(String, String)| known == name && kind.contains("ArrayVec<");
+        head.parameters.iter().any(named)
+    };
+    let left = match left.strip_suffix(".new.items") {
+        Some(name) if is_items(name) => format!("{name}.new"),
+        _ => left,
+    };
     let place = left.strip_suffix(".new");
     let lent = head
         .answer
         .as_ref()
         .is_some_and(|kind| kind.starts_with('&'));
+    let under = left.strip_suffix(" result").map(str::trim);
+    let faithful = under.is_some_and(|word| FAITHFUL.iter().any(|(known, _)| *known == word));
     let settles = left == "result"
         || left == "result.now" && lent
+        || faithful
         || place.is_some_and(|place| place.chars().all(in_name));
     let words = pieces(right, char::is_whitespace);
     let term = words.iter().all(|word| is_of_a_term(word)) && !right.trim().is_empty();
     let fact = apart && !clause.kind.ends_with('*');
+    let left = if faithful { "result".to_string() } else { left };
     (fact && settles && term && !speaks(right, &head.parameters)).then_some(left)
 }
 
@@ -381,6 +481,52 @@ fn module(path: &str) -> String {
     }
 }
 
+/// The conversions of a file that do not say what they give.
+fn silent_conversions(text: &str) -> Vec<String> {
+    let starts = text.match_indices("impl").filter(|(at, _)| {
+        let before = text[..*at].trim_end_matches([' ', '\t']);
+        before.is_empty() || before.ends_with('\n')
+    });
+    let each = starts.filter_map(|(at, _)| {
+        let brace = at + text[at..].find('{')?;
+        let head = text[at..brace]
+            .split_whitespace()
+            .collect::<Vec<_>>()
+            .join(" ");
+        let body = bracketed(&text[brace..], '{', '}').map_or("", |(body, _)| body);
+        let is_conversion = head.contains(" From<") || head.contains("> From<");
+        (is_conversion && !gives(body)).then_some(head)
+    });
+    each.collect()
+}
+
+/// Whether a conversion's block has an equation on what it gives.
+fn gives(body: &str) -> bool {
+    let Some((_, rest)) = body.split_once("ghost from_gives = ") else {
+        return false;
+    };
+    let Some((text, _)) = bracketed(rest, '{', '}') else {
+        return false;
+    };
+    let Some((bound, fact)) = text
+        .trim()
+        .strip_prefix('λ')
+        .and_then(|text| text.split_once('.'))
+    else {
+        return false;
+    };
+    let bound: Vec<&str> = bound.split_whitespace().collect();
+    let sides = pieces(fact, |c| c == '≡');
+    let ([_, given], [left, right]) = (&bound[..], &sides[..]) else {
+        return false;
+    };
+    let words = pieces(right, char::is_whitespace);
+    left.trim() == *given
+        && !right.trim().is_empty()
+        && words.iter().all(|word| is_of_a_term(word))
+        && names(right).all(|name| name != *given)
+}
+
 /// The number of functions of the files, each given by its path and text, and all faults.
 fn report(files: &[(String, String)], exceptions: &[(&str, &str)]) -> (usize, Vec<String>) {
     let (mut functions, mut found) = (0, Vec::new());
@@ -393,6 +539,8 @@ fn report(files: &[(String, String)], exceptions: &[(&str, &str)]) -> (usize, Ve
         found.extend(
             strange.map(|item| format!("{path}: a sign of contracts from elsewhere: {item}")),
         );
+        let silent = silent_conversions(&text).into_iter();
+        found.extend(silent.map(|head| format!("{path}: {head} does not say what it gives")));
         let unread = unread.iter().map(|line| line.trim());
         found.extend(unread.map(|line| format!("{path}: cannot be read: {line}")));
         for head in &heads {
@@ -469,6 +617,10 @@ mod tests {
             "// a fn of the past\nconst A: u8 = 1;\n#[unsafe(no_mangle)]\npub extern \"C\" fn f() -> u8\n    ensures { result ≡ 1 }\n{\n}\n",
             "#![tactic(auto)]\n#[tactic(auto, using(a_law, b_law), unfolding(f))]\npub fn f(x: u8) -> u8\n    ensures { result ≡ x }\n{\n}\n",
             "fn f<T: Fn<u8>>(a: [u8; 2]) -> [u8; 2] {\n}\n",
+            "fn f<F: FnMut(&mut [u8; 2], u8) -> u8>(a: F) -> [u8; 2] {\n}\n",
+            "pub(crate) trait T {\n    fn f(x: u8) -> u8;\n\n    fn g(x: u8) -> [u8; 2];\n}\n",
+            "pub fn f(x: u8) -> u8\n    ensures { as_answer result ≡ x }\n{\n    x\n}\n",
+            "pub trait T {\n    ghost g: { Self → ℕ → ℕ };\n\n    fn f(self, x: u8) -> u8\n        ensures { result ≡ g self x };\n}\n",
         ];
         for text in good {
             assert_eq!(said(text), Vec::<String>::new(), "{text}");
@@ -490,10 +642,60 @@ mod tests {
             "pub(crate) fn f(result: u8) -> u8 {\n    result\n}\n",
             "pub extern \"C\" fn f(x: u8) -> u8 {\n    x\n}\n",
             "pub\nfn f(x: u8) -> u8 {\n    x\n}\n",
+            "pub trait T {\n    fn f(self, x: u8) -> u8\n        requires { x < 3 }\n        ensures { result ≡ x };\n}\n",
+            "pub trait T {\n    fn f(self, x: u8) -> u8\n        ensures { result ≤ x };\n}\n",
+            "pub trait T {\n    fn f(x: u8) -> [u8; 2];\n}\n",
+            "pub fn f(x: u8) -> u8\n    ensures { first_of result ≡ x }\n{\n    x\n}\n",
+            "pub fn f(x: u8) -> u8\n    ensures { as_answer result ≡ as_answer result }\n{\n    x\n}\n",
+            "pub fn f(x: u8) -> u8\n    ensures { as_answer x ≡ x }\n{\n    x\n}\n",
         ];
         for text in faulty {
             assert_eq!(said(text).len(), 1, "{text}");
         }
+    }
+
+    #[test]
+    fn a_lent_self_is_settled_too() {
+        let of = |clauses: &str| {
+            said(&format!(
+                "impl S {{\n    pub fn f(&mut self, x: u8) -> u8\n    {clauses}\n    {{\n    }}\n}}\n"
+            ))
+        };
+        let vector = |clause: &str| {
+            said(&format!(
+                "pub fn f(x: &mut ArrayVec<u8, 2>)\n    ensures {{ {clause} }}\n{{\n}}\n"
+            ))
+        };
+        assert_eq!(vector("x.new.items ≡ x.old.items"), Vec::<String>::new());
+        assert_eq!(vector("x.new.length ≡ x.old.length").len(), 1);
+        let both = "ensures answer { result ≡ x }\n    ensures place { self.new ≡ f self.old x }";
+        assert_eq!(of(both), Vec::<String>::new());
+        assert_eq!(of("ensures { result ≡ x }").len(), 1);
+    }
+
+    #[test]
+    fn a_conversion_says_what_it_gives() {
+        let of = |line: &str| {
+            said(&format!(
+                "impl From<E> for u32 {{\n    {line}\n    fn from(e: E) -> u32 {{\n    }}\n}}\n"
+            ))
+        };
+        assert_eq!(
+            of("ghost from_gives = { λ e n. n ≡ f e };"),
+            Vec::<String>::new()
+        );
+        let silent = [
+            "",
+            "ghost from_gives = { λ e n. n ≡ n };",
+            "ghost from_gives = { λ e n. e ≡ e };",
+            "ghost from_gives = { λ e n. ⊤ };",
+            "ghost other = { λ e n. n ≡ f e };",
+        ];
+        for line in silent {
+            assert_eq!(of(line).len(), 1, "{line}");
+        }
+        let generic = "impl<T> From<E> for S<T> {\n    fn from(e: E) -> S<T> {\n    }\n}\n";
+        assert_eq!(said(generic).len(), 1);
     }
 
     #[test]

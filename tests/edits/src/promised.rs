@@ -17,6 +17,7 @@ const USED: &str = "use Rattle.promises.specs.Promises.{";
 /// otherwise is added, dropped or said otherwise here too.
 const FIELDS: &[&str] = &[
     "delivered : Delivered",
+    "answers : Answers",
     "claims : Claims",
     "reached : Reached",
     "independent_laws : IndependentLaws",

@@ -21,7 +21,7 @@ enum Refusal {
 
 /// How errors in proofs/ and open goals begin, behind the names of the declarations, and what they tell. A
 /// * is any text, a % one without a space or a backquote. The first that fits counts.
-const PATTERNS: [(Refusal, &str, &str); 27] = [
+const PATTERNS: [(Refusal, &str, &str); 28] = [
     (
         Unfit,
         "module `*` has no `",
@@ -142,6 +142,7 @@ const PATTERNS: [(Refusal, &str, &str); 27] = [
         "`search`: no proof of `",
         "the goal could not be shown",
     ),
+    (Fact, "`grind` found no proof", "the same"),
     (
         Fact,
         "give a proof of that as the last argument, `",
@@ -362,6 +363,7 @@ mod tests {
         "`no_byte`: `omega`: the goal does not follow from what it read. All of that holds",
         "`returns`: `grind`: the goal does not follow. The hypotheses hold, and the goal fails at",
         "`f_all`: `search`: no proof of `Kept (get_or 1 x)` was found. Every way was tried",
+        "`returns-in_default-2`: `grind` found no proof. It did not look into `λ d vs. base.Fml.fex (mathlib.Co",
         "`f_all`: give a proof of that as the last argument, `rw L t` (`rw L ?` shows it as a hole's goal), or add what is missing to the list",
         "`f_all`: list the missing equation with its arguments, or rewrite by `rw` or `simp`",
         "it is not proved that what the function ensures holds when it returns (`returns`)",

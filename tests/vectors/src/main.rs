@@ -96,7 +96,6 @@ fn patterns() -> Vec<u64> {
 
 fn source(patterns: &[u64]) -> String {
     let mut text = String::from("// Bit patterns of floats to round. Made by tests/vectors; do not edit.\n");
-    writeln!(text, "pub const COUNT: usize = {};\n", patterns.len()).unwrap();
     writeln!(text, "pub const PATTERNS: [u64; {}] = [", patterns.len()).unwrap();
     for bits in patterns {
         writeln!(text, "    0x{bits:016x},").unwrap();

@@ -1,5 +1,6 @@
 -- `lie_inside`: a line of so many pairs holds so many bytes (`how_many`).
-use Rattle.std.proofs.Common.{◌≡◌, ℕ, ◌/◌, List, length, sym, ap, ◌∙◌}
+use Rattle.std.proofs.Common.{◌≡◌, ℕ, ◌/◌, ◌<◌, List, length, sym, ap, ◌∙◌, arith}
+use borrow.Author.Tests.{lt-leb}
 use Rattle.scripts.specs.Commands.{pairs_of}
 use Rattle.numerals.proofs.Pairs.{how_many}
 use Rattle.areas.specs.Areas.{poked_bytes}
@@ -10,10 +11,11 @@ use Rattle.areas.proofs.lie_inside.Goals as goal
 counted : (line pairs : List ℕ) → pairs ≡ pairs_of line → length pairs / 2 ≡ length (poked_bytes line)
 counted line pairs e = ap (λ (w : List ℕ). length w / 2) e ∙ sym (how_many (pairs_of line))
 
-pub returns-then-area-count : goal.returns-then-area-count
-returns-then-area-count c =
-    sym (too_many c.args.start (poked_bytes c.args.line.now) c.args.area.now _ (counted c.args.line.now c.pairs_of-pairs.result.now c.pairs_of-pairs.ensures) c.if-area-count.true)
+pub returns-then-count-area : goal.returns-then-count-area
+returns-then-count-area c =
+    last_start c.args.start (poked_bytes c.args.line.now) c.args.area.now _ (counted c.args.line.now c.pairs_of.result.now c.pairs_of.ensures) (omega arith)
 
-pub returns : goal.returns
-returns c =
-    last_start c.args.start (poked_bytes c.args.line.now) c.args.area.now _ (counted c.args.line.now c.pairs_of-pairs.result.now c.pairs_of-pairs.ensures) c.if-area-count.false
+pub returns-else-count-area : goal.returns-else-count-area
+returns-else-count-area c =
+    let few : length c.args.area.now < length c.pairs_of.result.now / 2 = omega arith in
+    lt-leb _ _ few ∙ sym (too_many c.args.start (poked_bytes c.args.line.now) c.args.area.now _ (counted c.args.line.now c.pairs_of.result.now c.pairs_of.ensures) few)

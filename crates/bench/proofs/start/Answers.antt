@@ -2,7 +2,7 @@
 use Rattle.std.proofs.Common.{◌≡◌, sym, ap, ◌∙◌}
 use Rattle.rotation.proofs.Signed.{same32}
 use Rattle.bench.specs.Ranges.{within}
-use Rattle.bench.specs.Holds.{bench_at, power_on, start_speeds, started}
+use Rattle.bench.specs.Holds.{power_on, start_speeds, started}
 use Rattle.bench.proofs.start.Goals as goal
 
 pub returns-then-is_within : goal.returns-then-is_within
@@ -10,12 +10,11 @@ unfolding started
 returns-then-is_within c =
     let speed = same32 c.args.speed c.ranges.speed in
     let inside : within start_speeds c.args.speed ≡ c.is_within.result = sym (c.is_within.ensures ∙ ap (within start_speeds) speed) in
-    let bench = c.bench_at-bench.ensures ∙ ap bench_at speed in
-    rw (bench, inside, c.if-is_within.true)
+    rw (c.bench_at.ensures, speed, inside, c.if-is_within.true)
 
-pub returns : goal.returns
+pub returns-else-is_within : goal.returns-else-is_within
 unfolding started power_on
-returns c =
+returns-else-is_within c =
     let speed = same32 c.args.speed c.ranges.speed in
     let inside : within start_speeds c.args.speed ≡ c.is_within.result = sym (c.is_within.ensures ∙ ap (within start_speeds) speed) in
-    rw (c.bench_at-bench-2.ensures, inside, c.if-is_within.false)
+    rw (c.bench_at-else-is_within.ensures, inside, c.if-is_within.false)

@@ -1,26 +1,20 @@
--- `calls::receive` meets its contract: where the refusal is 0 the readings and the whole values are replaced, else the bench stays.
-use Rattle.std.proofs.Common.{◌≡◌, sym, ap, ◌∙◌}
-use mathlib.Core.Bool.{cond}
-use Rattle.bench.specs.Parts.{with_readings, with_wholes}
-use Rattle.bench.specs.Readings.{judged}
-use Rattle.bench.specs.Independent.{ended}
-use Rattle.bench.specs.Sound.{sound}
+-- `calls::receive` keeps the whole value that was judged.
+use Rattle.std.proofs.Common.{sym, ap, ◌∙◌}
+use Rattle.rotation.proofs.Signed.{same32}
+use Rattle.bench.specs.Parts.{with_readings, with_wholes, with_whole}
+use Rattle.bench.specs.Readings.{number_of, whole_number, stored_whole}
 use Rattle.calls.specs.Private.{received_as}
-use Rattle.calls.proofs.Answered.{if_refused, if_accepted_lem}
 use Rattle.calls.proofs.receive.Goals as goal
 
-pub returns-then-refusal-ne0 : goal.returns-then-refusal-ne0
-unfolding received_as
-returns-then-refusal-ne0 c =
-    let found : c.refusal_of-refusal.result ≡ cond (sound c.args.b) (judged c.args.range c.args.whole) 1 = simp (c.refusal_of-refusal.ensures, c.judge.ensures) in
-    let bench = if_refused _ _ found c.if-refusal-ne0.true (ended (with_wholes c.args.wholes (with_readings c.args.readings c.args.b))) c.args.b in
-    λ i. record { refusal = found i; bench = bench i }
-
-pub returns : goal.returns
-unfolding received_as
-returns c =
-    let none = c.if-refusal-ne0.false in
-    let found : c.refusal_of-refusal.result ≡ cond (sound c.args.b) (judged c.args.range c.args.whole) 1 = simp (c.refusal_of-refusal.ensures, c.judge.ensures) in
-    let replaced = c.with_wholes.ensures ∙ ap (with_wholes c.args.wholes) c.with_readings-next.ensures in
-    let bench = ap ended replaced ∙ if_accepted_lem _ _ found none _ c.args.b in
-    c.accept.ensures ∙ (λ i. record { refusal = (sym none ∙ found) i; bench = bench i })
+pub returns-in-Ok : goal.returns-in-Ok
+unfolding received_as with_readings with_wholes stored_whole whole_number
+returns-in-Ok c =
+    let own = c.in-Ok.ensures.value in
+    let read = rw own at c.judge-own.ensures.value in
+    -- what the type of the judged value says
+    let typed = rw own at c.judge-own.type_inv in
+    let same = same32 c.in-Ok.whole (record { sfits = typed.1.1.1.1.0.1 }) in
+    let number = same ∙ sym (ap number_of read) ∙ ap number_of c.whole_reading.ensures in
+    let wholes = c.with_whole-wholes.ensures ∙ (λ i. with_whole (c.kind_of.ensures i) (number i) c.args.b.wholes) in
+    let none = rw (c.judge-own.ensures.refusal, c.whole_reading.ensures) at c.in-Ok.ensures.refusal in
+    rw (c.accept.ensures.outcome, c.accept.ensures.bench, wholes, ← none)

@@ -1,11 +1,9 @@
--- `changes::altsel_captured` meets its contract: ALTSEL is armed beside laws 1 to 3 and 8, and the rule then engages it in capture.
-use Rattle.std.proofs.Common.{true, false, arith}
-use Rattle.std.proofs.lemmas.Bool.Decides.{nat_tests}
-use Rattle.changes.proofs.Joins.{altsel_captured}
+-- `changes::altsel_captured` meets its contract: ALTSEL is armed beside four of the vertical modes, and the rule then engages it in capture.
+use Rattle.changes.proofs.Joins.{altsel_armed, altsel_not_armed, altsel_captured}
 use Rattle.changes.proofs.altsel_captured.Goals as goal
 
-pub returns-in_default-2 : goal.returns-in_default-2
-returns-in_default-2 c = altsel_captured _ false (grind (arith, nat_tests))
+pub returns-in-Pitch : goal.returns-in-Pitch
+returns-in-Pitch c = altsel_captured _ _ (altsel_armed c.in-Pitch.is)
 
-pub returns-in-1-to-3 : goal.returns-in-1-to-3
-returns-in-1-to-3 c = rw c.with_vertical.ensures (altsel_captured _ true (grind (arith, nat_tests)))
+pub returns-in_default : goal.returns-in_default
+returns-in_default c = altsel_captured _ _ (altsel_not_armed _ c.in_default.not-Pitch c.in_default.not-Vs c.in_default.not-Flc c.in_default.not-Vga)

@@ -1,12 +1,9 @@
--- `changes::clear_vappr` meets its contract: where law 7 is shown VAPPR is engaged, and the rule then engages PITCH.
-use Rattle.std.proofs.Common.{◌≢◌, arith}
-use Rattle.changes.proofs.Joins.{shows, shows_not, vappr_cleared}
+-- `changes::clear_vappr` meets its contract: where VAPPR is engaged, the rule engages PITCH.
+use Rattle.changes.proofs.Joins.{vertical_is, vertical_not, vappr_cleared}
 use Rattle.changes.proofs.clear_vappr.Goals as goal
 
-pub returns-in-7 : goal.returns-in-7
-returns-in-7 c = rw (c.with_vertical.ensures, c.with_vappr_armed-unarmed.ensures) (vappr_cleared _ _ (shows c.vertical_number-law.ensures c.in-7.is))
+pub returns-in-Vappr : goal.returns-in-Vappr
+returns-in-Vappr c = vappr_cleared _ _ (vertical_is c.in-Vappr.is)
 
 pub returns-in_default : goal.returns-in_default
-returns-in_default c =
-    let other : c.vertical_number-law.result ≢ 7 = omega arith in
-    rw c.with_vappr_armed-unarmed.ensures (vappr_cleared _ _ (shows_not c.vertical_number-law.ensures other))
+returns-in_default c = vappr_cleared _ _ (vertical_not c.in_default.not-Vappr)

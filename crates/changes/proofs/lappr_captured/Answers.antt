@@ -3,8 +3,7 @@ use Rattle.changes.proofs.Joins.{lappr_captured}
 use Rattle.changes.proofs.lappr_captured.Goals as goal
 
 pub returns-then-arms_lappr : goal.returns-then-arms_lappr
-returns-then-arms_lappr c =
-    rw (c.with_armed.ensures, c.with_lateral.ensures) (lappr_captured _ _ (rw c.arms_lappr.ensures at c.if-arms_lappr.true))
+returns-then-arms_lappr c = lappr_captured _ _ (rw c.arms_lappr.ensures at c.if-arms_lappr.true)
 
 pub returns-else-arms_lappr : goal.returns-else-arms_lappr
 returns-else-arms_lappr c = lappr_captured _ _ (rw c.arms_lappr.ensures at c.if-arms_lappr.false)

@@ -3,8 +3,7 @@ use Rattle.changes.proofs.Joins.{nav_captured}
 use Rattle.changes.proofs.nav_captured.Goals as goal
 
 pub returns-then-arms_nav : goal.returns-then-arms_nav
-returns-then-arms_nav c =
-    rw (c.with_armed.ensures, c.to_lateral.ensures) (nav_captured _ _ (rw c.arms_nav.ensures at c.if-arms_nav.true))
+returns-then-arms_nav c = rw c.to_lateral.ensures (nav_captured _ _ (rw c.arms_nav.ensures at c.if-arms_nav.true))
 
 pub returns-else-arms_nav : goal.returns-else-arms_nav
 returns-else-arms_nav c = nav_captured _ _ (rw c.arms_nav.ensures at c.if-arms_nav.false)

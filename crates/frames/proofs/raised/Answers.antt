@@ -1,24 +1,14 @@
--- `frames::raised` meets its contract: the magnitude is added, or taken off where x is negative.
-use Rattle.std.proofs.Common.{◌+◌, ◌-◌, ◌<◌, ◌≤◌, ℕ, ap, subst, ◌∙◌}
-use Rattle.rotation.proofs.Signed.{same32}
-use Rattle.frames.proofs.Numbers.{raised_above, raised_none, raised_below}
+-- `frames::raised` meets its contract: the sum at 64 bits is exact, and 0 stands for what is negative.
+use Rattle.std.proofs.Common.{◌≡◌, ◌∙◌, ◌^◌, ◌<◌, arith, pos, ◌+ℤ◌, to_z, of_z, w64}
+use Rattle.std.specs.Prelude.{unsigned_abs}
+use Rattle.std.proofs.lemmas.Int.{ints}
+use Rattle.frames.specs.Frames.{raised}
+use Rattle.frames.proofs.Numbers.{natural_by}
 use Rattle.frames.proofs.raised.Goals as goal
 
-pub returns-then-x-ge0 : goal.returns-then-x-ge0
-returns-then-x-ge0 c =
-    let same = same32 c.args.x c.ranges.x in
-    let size = rw same at c.magnitude-size.ensures in
-    ap (λ (n : ℕ). n + c.args.by) size ∙ raised_above c.args.by c.args.x (rw same at c.if-x-ge0.true)
-
-pub returns-then-by-size : goal.returns-then-by-size
-returns-then-by-size c =
-    let same = same32 c.args.x c.ranges.x in
-    let size = rw same at c.magnitude-size.ensures in
-    raised_none c.args.by c.args.x (rw same at c.if-x-ge0.false) (subst (λ (n : ℕ). c.args.by < n) size c.if-by-size.true)
-
 pub returns : goal.returns
+unfolding raised
 returns c =
-    let same = same32 c.args.x c.ranges.x in
-    let size = rw same at c.magnitude-size.ensures in
-    ap (λ (n : ℕ). c.args.by - n) size
-    ∙ raised_below c.args.by c.args.x (rw same at c.if-x-ge0.false) (subst (λ (n : ℕ). n ≤ c.args.by) size c.if-by-size.false)
+    let exact : to_z w64 (of_z w64 (to_z w64 (of_z w64 c.from.result) +ℤ to_z w64 (of_z w64 c.from-2.result))) ≡ c.args.x +ℤ pos c.args.by = omega (arith, ints) in
+    let small : unsigned_abs (c.args.x +ℤ pos c.args.by) < 2 ^ 64 = omega (arith, ints) in
+    c.unwrap_or.ensures ∙ natural_by (c.args.x +ℤ pos c.args.by) c.try_from.result small (rw exact at c.try_from.ensures)

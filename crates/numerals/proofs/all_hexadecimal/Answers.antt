@@ -1,26 +1,17 @@
--- `numerals::all_hexadecimal` meets its contract: a turn tests the first byte of the rest. Assumes nothing.
-use Rattle.std.proofs.Common.{◌≡◌, ℕ, ◌+◌, ◌<◌, ◌≤◌, true, ◌&&◌, ltb, List, length, get_or, drop, sym, ◌∙◌, add-one, arith, drop_of_length-le, drop-cons, le-ltb, lt-ltb}
+-- `numerals::all_hexadecimal` meets its contract: all bytes pass the test of a digit. Assumes nothing.
+use Rattle.std.proofs.Common.{◌≡◌, ℕ, ltb, List, [], ◌∷◌, refl, ◌∙◌, rules, tests}
+use Rattle.std.proofs.lemmas.Iterator.{YieldsList-from_slice}
+use Rattle.std.proofs.lemmas.Iterator.Search.{all_from_yields_List}
+use Rattle.std.specs.List.{list_all}
 use Rattle.numerals.specs.Digits.{digit_of, all_digits}
 use Rattle.numerals.proofs.all_hexadecimal.Goals as goal
 
--- the byte at i, of the digit d, then the rest
-at_byte : (w : List ℕ) (i d : ℕ) → i < length w → d ≡ digit_of (get_or w i 0) → all_digits 16 (drop i w) ≡ (ltb d 16 && all_digits 16 (drop (i + 1) w))
+listed : (w : List ℕ) → list_all (λ b. ltb (digit_of b) 16) w ≡ all_digits 16 w
 unfolding all_digits
-at_byte w i d h e = rw (add-one, drop-cons w i 0, e)
-
-at_end : (w : List ℕ) (i : ℕ) → length w ≤ i → all_digits 16 (drop i w) ≡ true
-unfolding all_digits
-at_end w i h = rw (drop_of_length-le w {i = i} h)
-
-pub returns-then-digit-ge16 : goal.returns-then-digit-ge16
-returns-then-digit-ge16 c =
-    rw (le-ltb _ _ c.if-digit-ge16.true) at (sym (at_byte c.args.w.now c.loop-i.i c.digit.result c.loop-i-test.true c.digit.ensures) ∙ c.loop-i.invariant.1)
-
-pub loop-i-preserved : goal.loop-i-preserved
-loop-i-preserved c = (
-  omega arith,
-  rw (lt-ltb _ _ c.if-digit-ge16.false) at (sym (at_byte c.args.w.now c.loop-i.i c.digit.result c.loop-i-test.true c.digit.ensures) ∙ c.loop-i.invariant.1),
-)
+listed [] = refl
+listed (b ∷ w) = rw (listed w)
 
 pub returns : goal.returns
-returns c = sym (at_end c.args.w.now c.loop-i.i c.loop-i-test.false) ∙ c.loop-i.invariant.1
+returns c =
+    all_from_yields_List (λ b. ltb (digit_of b) 16) _ _ _ c.all.ensures.ran (YieldsList-from_slice c.args.w.now cc) (λ x b q k. search (rules, tests))
+    ∙ listed c.args.w.now

