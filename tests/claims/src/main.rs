@@ -201,11 +201,11 @@ fn contract(tree: &Tree, piece: &str) -> Option<String> {
     let parts: Vec<&str> = piece.split("::").collect();
     let (name, inner) = (parts[parts.len() - 1], &parts[1..parts.len() - 1]);
     // a method stands in the braces of its type's impl, a level deeper
-    let of_type = |part: &&&str| part.starts_with(char::is_uppercase);
-    let (modules, depth) = match inner.last() {
-        Some(part) if of_type(&part) => (&inner[..inner.len() - 1], "    "),
-        _ => (inner, ""),
-    };
+    let owner = inner
+        .last()
+        .filter(|part| part.starts_with(char::is_uppercase));
+    let modules = &inner[..inner.len() - usize::from(owner.is_some())];
+    let depth = if owner.is_some() { 4 } else { 0 };
     let folder = format!("crates/{}/src", parts[0]);
     let program = tree.contains_key(&format!("{folder}/main.rt"));
     let file = match modules {
@@ -214,20 +214,13 @@ fn contract(tree: &Tree, piece: &str) -> Option<String> {
     };
     let text = tree.get(&file).map_or("", String::as_str);
     let level = |line: &str| line.len() - line.trim_start().len();
-    let deep = |line: &&str| program || level(line) == depth.len();
+    let deep = |line: &&str| program || level(line) == depth;
     let heads = |line: &&str| words(line).starts_with(&["fn"]) && ident(words(line)[1]) == name;
-    let owner = inner
-        .last()
-        .filter(of_type)
-        .map(|part| format!("impl {part} "));
-    let block = |line: &&str| {
-        owner
-            .as_ref()
-            .is_some_and(|owner| !line.starts_with(owner.as_str()))
-    };
+    let block = owner.map(|part| format!("impl {part} "));
+    let ahead = |line: &&str| block.as_ref().is_some_and(|block| !line.starts_with(block));
     let mut lines = text
         .lines()
-        .skip_while(block)
+        .skip_while(ahead)
         .skip_while(|line| !(heads(line) && deep(line)));
     let Some(first) = lines.next() else {
         return Some(format!("no such function in {file}"));

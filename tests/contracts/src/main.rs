@@ -155,6 +155,10 @@ fn pieces(text: &str, wanted: impl Fn(char) -> bool) -> Vec<&str> {
     found
 }
 
+fn on_one_line(text: &str) -> String {
+    text.split_whitespace().collect::<Vec<_>>().join(" ")
+}
+
 fn in_name(c: char) -> bool {
     c.is_alphanumeric() || c == '_'
 }
@@ -178,8 +182,7 @@ fn parameters(text: &str) -> Vec<(String, String)> {
     let each = pieces(text, |c| c == ',').into_iter();
     let pair = |piece: &str| {
         // a method's self may be lent as any other parameter is
-        let words = piece.split_whitespace().collect::<Vec<_>>().join(" ");
-        if words == "&mut self" {
+        if on_one_line(piece) == "&mut self" {
             return Some(("self".to_string(), "&mut Self".to_string()));
         }
         let (name, kind) = piece.split_once(':')?;
@@ -249,27 +252,13 @@ fn behind_generics(text: &str) -> Option<&str> {
     None
 }
 
-/// Whether a place stands in the braces of a trait.
-fn in_trait(before: &str) -> bool {
-    let is_trait = |line: &str| {
-        let mut words = line.split_whitespace();
-        let first = words.find(|word| !word.starts_with("pub"));
-        first == Some("trait")
-    };
+/// Of a place in the braces of a trait, whether the trait is public.
+fn enclosing_trait(before: &str) -> Option<bool> {
     // items begin at the left edge, and a brace there ends them
     let edge = |line: &&str| line.starts_with(in_name) || line.starts_with('}');
-    before
-        .lines()
-        .filter(edge)
-        .next_back()
-        .is_some_and(is_trait)
-}
-
-/// Whether the trait that a function without a body is asked for by is public.
-fn of_public_trait(before: &str) -> bool {
-    let named = |line: &&str| line.split_whitespace().any(|word| word == "trait");
-    let line = before.lines().filter(named).next_back();
-    line.is_some_and(|line| line.trim_start().starts_with("pub trait "))
+    let mut words = before.lines().filter(edge).next_back()?.split_whitespace();
+    let public = words.clone().next() == Some("pub");
+    (words.find(|word| !word.starts_with("pub")) == Some("trait")).then_some(public)
 }
 
 /// The head whose `fn` stands at a place of the text, if it can be read.
@@ -284,10 +273,11 @@ fn head(text: &str, at: usize) -> Option<Head> {
     let (inner, after) = bracketed(rest, '(', ')')?;
     let answer = after.trim_start().strip_prefix("->");
     let kind = |answer: &str| answer.split('{').next().unwrap_or("").trim().to_string();
-    let (clauses, body) = clauses(after, in_trait(&text[..at]))?;
+    let asked_for = enclosing_trait(&text[..at]);
+    let (clauses, body) = clauses(after, asked_for.is_some())?;
     Some(Head {
         name: name.to_string(),
-        public: words.contains(&"pub") || !body && of_public_trait(&text[..at]),
+        public: words.contains(&"pub") || !body && asked_for == Some(true),
         parameters: parameters(inner),
         answer: answer.map(kind),
         clauses,
@@ -489,10 +479,7 @@ fn silent_conversions(text: &str) -> Vec<String> {
     });
     let each = starts.filter_map(|(at, _)| {
         let brace = at + text[at..].find('{')?;
-        let head = text[at..brace]
-            .split_whitespace()
-            .collect::<Vec<_>>()
-            .join(" ");
+        let head = on_one_line(&text[at..brace]);
         let body = bracketed(&text[brace..], '{', '}').map_or("", |(body, _)| body);
         let is_conversion = head.contains(" From<") || head.contains("> From<");
         (is_conversion && !gives(body)).then_some(head)
@@ -661,6 +648,13 @@ mod tests {
                 "impl S {{\n    pub fn f(&mut self, x: u8) -> u8\n    {clauses}\n    {{\n    }}\n}}\n"
             ))
         };
+        let both = "ensures answer { result ≡ x }\n    ensures place { self.new ≡ f self.old x }";
+        assert_eq!(of(both), Vec::<String>::new());
+        assert_eq!(of("ensures { result ≡ x }").len(), 1);
+    }
+
+    #[test]
+    fn an_array_vec_is_its_items() {
         let vector = |clause: &str| {
             said(&format!(
                 "pub fn f(x: &mut ArrayVec<u8, 2>)\n    ensures {{ {clause} }}\n{{\n}}\n"
@@ -668,9 +662,6 @@ mod tests {
         };
         assert_eq!(vector("x.new.items ≡ x.old.items"), Vec::<String>::new());
         assert_eq!(vector("x.new.length ≡ x.old.length").len(), 1);
-        let both = "ensures answer { result ≡ x }\n    ensures place { self.new ≡ f self.old x }";
-        assert_eq!(of(both), Vec::<String>::new());
-        assert_eq!(of("ensures { result ≡ x }").len(), 1);
     }
 
     #[test]
