@@ -41,6 +41,8 @@ pub(crate) fn damage_reference(b: Bench, number: u32, place: u32, x: i32) -> Ben
 }
 
 // The readings with one of them replaced, whatever it is.
+// Stays: document 01 has the reading call match the kind itself, for its range and its field, and damage asks for no
+// range, so that this match stands beside that one.
 #[tactic(auto, unfolding(bench::specs::Readings::stored))]
 fn store(w: Readings, r: Reading) -> Readings
     ensures { result ≡ stored r w }

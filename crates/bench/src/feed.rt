@@ -12,12 +12,12 @@ fn float_of(r: Reading) -> f64
     ensures { result ≡ float_of r }
 {
     match r {
-        Reading::Altitude(x) => x,
-        Reading::Airspeed(x) => x,
-        Reading::VerticalSpeed(x) => x,
-        Reading::Roll(x) => x,
-        Reading::Pitch(x) => x,
-        Reading::Heading(x) => x,
+        Reading::Altitude(x)
+        | Reading::Airspeed(x)
+        | Reading::VerticalSpeed(x)
+        | Reading::Roll(x)
+        | Reading::Pitch(x)
+        | Reading::Heading(x) => x,
     }
 }
 
@@ -25,19 +25,10 @@ fn float_of(r: Reading) -> f64
 fn wrap(r: Reading, v: i32) -> i32
     ensures { result ≡ wrapped r v }
 {
-    match r {
-        Reading::Heading(_) => match v {
-            360 => 0,
-            _ => v,
-        },
-        Reading::Roll(_) => match v {
-            180 => -180,
-            _ => v,
-        },
-        Reading::Altitude(_) => v,
-        Reading::Airspeed(_) => v,
-        Reading::VerticalSpeed(_) => v,
-        Reading::Pitch(_) => v,
+    match (r, v) {
+        (Reading::Heading(_), 360) => 0,
+        (Reading::Roll(_), 180) => -180,
+        _ => v,
     }
 }
 

@@ -9,7 +9,6 @@ pub mod parts;
 pub mod ranges;
 
 ghost use Rattle.std.specs.Prelude.{◌≡◌, ◌&&◌, eqb};
-ghost use Rattle.bench.specs.Parts.{box};
 ghost use Rattle.bench.specs.Holds.{start_channel, start_readings, start_wholes, bench_at, power_on, started, as_started};
 ghost use Rattle.bench.specs.Sides.{acts, other_side};
 ghost use Rattle.bench.specs.Independent.{both_approach, independent_sound};
@@ -19,10 +18,7 @@ ghost use Rattle.bench.specs.Sound.{references_sound, channel_sound, readings_so
 use answers::{Answer, Refusal};
 use modes::ModeSet;
 use modes::sets::engages_approach;
-use parts::{
-    HEADING, HELD, IAS, PITCH, PRESELECTED, ROLL, VERTICAL_SPEED, box_of, with_reference,
-    zero_references,
-};
+use parts::{HEADING, HELD, IAS, PITCH, PRESELECTED, ROLL, VERTICAL_SPEED, zero_references};
 use ranges::{Range, reference_in_range};
 
 // What the two sides share and an event can change: the PF side, AP, the overspeed flag, and whether
@@ -78,7 +74,8 @@ pub struct Readings {
 
 // Their whole values, in the same units as the ranges of the readings. The kinds are numbered 0 to 5 in
 // this order.
-// Stays: document 01 has the readings as a struct of six f64 fields, and so this one stands beside it.
+// Stays: document 01 has the readings as a struct of six f64 fields, which fields of a type parameter would not be, and
+// so this one stands beside it.
 #[derive(Clone, Copy)]
 pub struct Wholes {
     pub altitude: i32,
@@ -116,14 +113,17 @@ pub struct Bench {
 // The starting speed of the default bench, in knots.
 const DEFAULT_SPEED: i32 = 120;
 
-#[tactic(auto, unfolding(crate::specs::Holds::start_channel))]
+#[tactic(auto, unfolding(crate::specs::Holds::start_channel, crate::specs::Parts::with_reference))]
 fn start_channel(speed: i32) -> Channel
     ensures { result ≡ start_channel speed }
 {
     Channel {
         fd: false,
         set: ModeSet::Off,
-        references: with_reference(zero_references(), IAS, speed),
+        references: References {
+            ias: speed,
+            ..zero_references()
+        },
     }
 }
 
@@ -132,7 +132,7 @@ fn start_readings(speed: i32) -> Readings
 {
     Readings {
         altitude: 0.0,
-        airspeed: speed as f64,
+        airspeed: f64::from(speed),
         vertical_speed: 0.0,
         roll: 0.0,
         pitch: 0.0,
@@ -231,7 +231,7 @@ pub fn side_acts(b: Bench, side: u32) -> bool
 pub fn both_approach(b: Bench) -> bool
     ensures { result ≡ both_approach b }
 {
-    engages_approach(box_of(b, 0).set) && engages_approach(box_of(b, 1).set)
+    engages_approach(b.left.set) && engages_approach(b.right.set)
 }
 
 // Whether independent operation is off, or both sides have what it needs.
@@ -257,10 +257,9 @@ pub fn references_sound(r: References) -> bool
 }
 
 #[tactic(auto, unfolding(crate::specs::Sound::channel_sound))]
-fn box_sound(b: Bench, number: u32) -> bool
-    ensures { result ≡ channel_sound (box number b) }
+fn box_sound(c: Channel) -> bool
+    ensures { result ≡ channel_sound c }
 {
-    let c = box_of(b, number);
     modes::sets::set_is_coherent(c.set) && references_sound(c.references)
 }
 
@@ -276,7 +275,7 @@ fn is_kept(range: Range, r: Reading, number: i32) -> bool
 fn readings_sound(w: Readings, k: Wholes) -> bool
     ensures { result ≡ readings_sound w k }
 {
-    // Stays: `&` over the six, since `&&` was tried here and its proof did not close.
+    // Stays: `&` over the six. With `&&` the check did not close `returns-then-is_kept-5` and `returns-else-is_kept-5`.
     is_kept(ranges::ALTITUDE, Reading::Altitude(w.altitude), k.altitude)
         & is_kept(ranges::AIRSPEED, Reading::Airspeed(w.airspeed), k.airspeed)
         & is_kept(
@@ -295,10 +294,10 @@ pub fn is_sound(b: Bench) -> bool
     ensures { result ≡ sound b }
 {
     b.shared.pf <= 1
-        && box_sound(b, 0)
-        && box_sound(b, 1)
-        && box_sound(b, 2)
-        && box_sound(b, 3)
+        && box_sound(b.left)
+        && box_sound(b.right)
+        && box_sound(b.left_inbox)
+        && box_sound(b.right_inbox)
         && readings_sound(b.readings, b.wholes)
         && independent_sound(b)
 }

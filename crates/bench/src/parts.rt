@@ -1,7 +1,7 @@
-// The parts of a bench: each can be read and replaced, and nothing else spells a bench, a channel or
-// the references out.
+// The parts of a bench: each can be read and replaced, by its number where it has one. A caller that
+// knows the field reads it itself, and replaces it by a struct update.
 // Stays: a side, box, place, knob or kind is a u32 here, since callers may pass any; each function says
-// what the numbers past the last one give.
+// what the numbers past the last one give. Private functions of the crates above hand such a number on.
 ghost use Rattle.std.specs.Prelude.{◌≡◌};
 ghost use Rattle.bench.specs.Parts.{with_shared, with_counts, with_readings, with_wholes, box, with_box, with_fd, with_set, with_references, with_pf, reference, with_reference, zero_references, count_of, with_count, with_whole};
 ghost use Rattle.bench.specs.Independent.{with_operation};
@@ -32,6 +32,9 @@ pub fn with_shared(b: Bench, shared: Shared) -> Bench
     Bench { shared, ..b }
 }
 
+// Stays: a public function stays. Each caller in this repository writes the struct update itself in place
+// of `with_counts`, `with_readings`, `with_wholes`, `with_fd`, `with_set`, `with_references` and `with_pf`.
+// PartLaws is about the definitions of the first three.
 #[tactic(auto, unfolding(crate::specs::Parts::with_counts))]
 pub fn with_counts(b: Bench, counts: Counts) -> Bench
     ensures { result ≡ with_counts counts b }
@@ -71,7 +74,7 @@ pub fn with_box(b: Bench, number: u32, c: Channel) -> Bench
     ensures { result ≡ with_box number c b }
 {
     // Stays: an assignment to one copy. `Bench { left: c, ..b }` and the like in the arms were tried: a list
-    // of events then took 1.04 times the instructions.
+    // of events then took 1.04 times the instructions, and no call is to get slower (docs/PERFORMANCE.md).
     let mut next = b;
     match number {
         0 => next.left = c,
@@ -197,8 +200,8 @@ pub fn count_of(c: Counts, knob: u32) -> u8
 }
 
 // The counts with another one for a knob; past knob 3 there is none to replace.
-// Stays: `with_box` is of the same shape, but its struct has other fields, and each field is named in an
-// arm of its own either way.
+// Stays: `with_reference` and `with_whole` are of the same shape, but each struct has other fields, and each field is
+// named in an arm of its own either way.
 #[tactic(auto, unfolding(crate::specs::Parts::with_count))]
 pub fn with_count(c: Counts, knob: u32, n: u8) -> Counts
     ensures { result ≡ with_count knob n c }

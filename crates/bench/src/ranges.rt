@@ -45,11 +45,7 @@ pub fn reference_range(place: u32) -> Range
 {
     match place {
         0 => Range { low: 0, high: 359 },
-        1 => Range {
-            low: -8000,
-            high: 56000,
-        },
-        2 => Range {
+        1 | 2 => Range {
             low: -8000,
             high: 56000,
         },
@@ -64,7 +60,7 @@ pub fn reference_range(place: u32) -> Range
 pub fn is_within(range: Range, x: i32) -> bool
     ensures { result ≡ within range x }
 {
-    (range.low <= x) & (x <= range.high)
+    (range.low..=range.high).contains(&x)
 }
 
 // The sum of two numbers, brought to the nearer end of a range where it lies outside.

@@ -100,6 +100,9 @@ fn accept(b: Bench) -> Answer<()>
     }
 }
 
+// Stays: each call matches what it was permitted, here and below. One function for all would take a closure, and with it a
+// `requires`, in place of one arm.
+
 // An event word: its lowest set bit names the event.
 #[tactic(auto, unfolding(crate::specs::Calls::event_answer, crate::specs::Calls::next, crate::specs::Calls::refusal), using(crate::proofs::Answered::some_number))]
 pub fn event(b: Bench, word: u32) -> Answer<u32>
@@ -107,7 +110,7 @@ pub fn event(b: Bench, word: u32) -> Answer<u32>
 {
     match permitted(b, known_events(word)) {
         Ok(()) => {
-            let number = u32::trailing_zeros(word);
+            let number = word.trailing_zeros();
             Answer {
                 outcome: Ok(number),
                 bench: end_independent(steps::act(events::event_at(number), b)),

@@ -33,6 +33,11 @@ vertical_is e = eq-eqb _ _ (ap vertical_number e)
 pub vertical_not : {x k : Vertical} → (x ≡ k → ⊥) → eqb (vertical_number x) (vertical_number k) ≡ false
 vertical_not {x} {k} h = ne_eqb _ _ (λ q. h (same_place verticals x k (subst (λ (n : ℕ). T (eqb (vertical_number x) n)) q (eqb_refl (vertical_number x)))))
 
+pub lappr_not_armed : (a : ArmedLateral) → (a ≡ ArmedLateral.Lappr → ⊥) → arms_lappr a ≡ false
+lappr_not_armed ArmedLateral.Neither h = refl
+lappr_not_armed ArmedLateral.Nav h = refl
+lappr_not_armed ArmedLateral.Lappr h = absurd (h refl)
+
 -- ALT or ALTSEL is engaged
 abbrev holds_altitude : Vertical → Bool
 holds_altitude v = not (ltb (vertical_number v) 4) && ltb (vertical_number v) 7
@@ -171,3 +176,17 @@ pub appr_switched : (m : Modes) (b x : Bool) → eqb (lateral_number m.lateral) 
     cond b (clear LAPPR m) (cond x (clear LAPPR m) (with_vappr_armed true (with_armed ArmedLateral.Lappr m))) ≡ switch_appr m
 unfolding engaged armed put disarm drop clear engage cleared arm switch_appr
 appr_switched = by_both _ _ _ _ switch_appr tt
+
+-- where a switch clears the mode, whether it was engaged or armed
+
+cond_same : {A : Type 0} (b : Bool) (x : A) → cond b x x ≡ x
+cond_same false x = refl
+cond_same true x = refl
+
+pub nav_switched_off : (m : Modes) → (m.lateral ≡ Lateral.Nav) ⊎ (m.armed ≡ ArmedLateral.Nav) → clear NAV m ≡ switch_nav m
+nav_switched_off m (inl e) = nav_switched m _ _ (lateral_is e) refl
+nav_switched_off m (inr e) = subst (λ (n : Modes). n ≡ switch_nav m) (cond_same (eqb (lateral_number m.lateral) 3) (clear NAV m)) (nav_switched m _ _ refl e)
+
+pub lappr_switched_off : (m : Modes) → (m.lateral ≡ Lateral.Lappr) ⊎ (m.armed ≡ ArmedLateral.Lappr) → clear LAPPR m ≡ switch_appr m
+lappr_switched_off m (inl e) = appr_switched m _ _ (lateral_is e) refl
+lappr_switched_off m (inr e) = subst (λ (n : Modes). n ≡ switch_appr m) (cond_same (eqb (lateral_number m.lateral) 4) (clear LAPPR m)) (appr_switched m _ _ refl (ap arms_lappr e))

@@ -121,11 +121,8 @@ fn overspeed_begins(flag: bool, m: Modes) -> Modes
     let engaged = m.vertical;
     match engaged {
         Vertical::Alt | Vertical::AltselCapture | Vertical::AltselTrack => m,
-        _ => if flag {
-            m
-        } else {
-            to_vertical(m, Vertical::Flc)
-        },
+        _ if flag => m,
+        _ => to_vertical(m, Vertical::Flc),
     }
 }
 
@@ -164,14 +161,10 @@ fn vappr_captured(flag: bool, m: Modes) -> Modes
 {
     let engaged = m.lateral;
     match engaged {
-        Lateral::Lappr => if m.vappr_armed & !flag {
-            Modes {
-                vertical: Vertical::Vappr,
-                vappr_armed: false,
-                ..m
-            }
-        } else {
-            m
+        Lateral::Lappr if m.vappr_armed & !flag => Modes {
+            vertical: Vertical::Vappr,
+            vappr_armed: false,
+            ..m
         },
         _ => m,
     }
@@ -208,8 +201,8 @@ fn altsel_on_track(m: Modes) -> Modes
 }
 
 // 14
-// Stays: the paper has modes decided by a match, and a pattern takes no parameter. So the switches of
-// HDG, VS and ALT do not become one function of a mode.
+// Stays: document 01 wants modes decided by a match, and a pattern takes no parameter. So the switches of HDG, VS and
+// ALT are not one function of a mode; a match on a pair of modes would name each mode once more.
 fn hdg_switch(m: Modes) -> Modes
     ensures { result ≡ switch HDG m }
 {
@@ -229,18 +222,15 @@ fn nav_switch(m: Modes) -> Modes
 {
     let engaged = m.lateral;
     let armed = m.armed;
-    match engaged {
-        Lateral::Nav => clear_nav(m),
-        _ => match armed {
-            ArmedLateral::Neither => Modes {
-                armed: ArmedLateral::Nav,
-                ..m
-            },
-            ArmedLateral::Nav => clear_nav(m),
-            ArmedLateral::Lappr => Modes {
-                armed: ArmedLateral::Nav,
-                ..clear_lappr(m)
-            },
+    match (engaged, armed) {
+        (Lateral::Nav, _) | (_, ArmedLateral::Nav) => clear_nav(m),
+        (_, ArmedLateral::Lappr) => Modes {
+            armed: ArmedLateral::Nav,
+            ..clear_lappr(m)
+        },
+        (_, ArmedLateral::Neither) => Modes {
+            armed: ArmedLateral::Nav,
+            ..m
         },
     }
 }
@@ -250,16 +240,13 @@ fn appr_switch(m: Modes) -> Modes
     ensures { result ≡ switch_appr m }
 {
     let engaged = m.lateral;
-    match engaged {
-        Lateral::Lappr => clear_lappr(m),
-        _ => if arms_lappr(m.armed) {
-            clear_lappr(m)
-        } else {
-            Modes {
-                armed: ArmedLateral::Lappr,
-                vappr_armed: true,
-                ..m
-            }
+    let armed = m.armed;
+    match (engaged, armed) {
+        (Lateral::Lappr, _) | (_, ArmedLateral::Lappr) => clear_lappr(m),
+        _ => Modes {
+            armed: ArmedLateral::Lappr,
+            vappr_armed: true,
+            ..m
         },
     }
 }
@@ -284,13 +271,10 @@ fn flc_switch(flag: bool, m: Modes) -> Modes
 {
     let engaged = m.vertical;
     match engaged {
-        Vertical::Flc => if flag {
-            m
-        } else {
-            Modes {
-                vertical: Vertical::Pitch,
-                ..m
-            }
+        Vertical::Flc if flag => m,
+        Vertical::Flc => Modes {
+            vertical: Vertical::Pitch,
+            ..m
         },
         _ => to_vertical(m, Vertical::Flc),
     }

@@ -53,7 +53,7 @@ module _ (start : Bench) (sound_start : sound start ≡ true) where
         same_trans (passive_kept s hs post (next b (Call.Refresh s)) (next_sound b (Call.Refresh s) h) off.1 still last kept) (refreshed_side s hs b h (idle s b flown off.0)) in
         shows (pre ++ (Call.Refresh s ∷ post)) s hs (inbox b s) (rw (after_append pre (Call.Refresh s ∷ post) start) holds)
 
-  -- what the inbox holds: what the other side held just before its last send, or what it held at the start
+  -- what the inbox holds: what the other side held just before its last send
   inbox_sent : (s : ℕ) → s ≤ 1 → (ahead later : List Call) → None (sends (other_side s)) later
       → inbox (after start (ahead ++ (Call.Send (other_side s) ∷ later))) s ≡ side (after start ahead) (other_side s)
   inbox_sent s hs ahead later n =
@@ -61,9 +61,6 @@ module _ (start : Bench) (sound_start : sound start ≡ true) where
       let h = sound_from ahead in
       rw (after_append ahead (Call.Send (other_side s) ∷ later) start)
       (inbox_kept s hs later (next b (Call.Send (other_side s))) (next_sound b (Call.Send (other_side s)) h) n ∙ sent_inbox s hs b h)
-
-  inbox_unsent : (s : ℕ) → s ≤ 1 → (pre : List Call) → None (sends (other_side s)) pre → inbox (after start pre) s ≡ inbox start s
-  inbox_unsent s hs pre n = inbox_kept s hs pre start sound_start n
 
   -- the rule for a split of a list, with what an unsent side shows told by the inbox at the start
   passive_from : (cs : List Call) (s : ℕ) → s ≤ 1 → (pre post : List Call) → cs ≡ pre ++ (Call.Refresh s ∷ post) → OffThroughout (after start pre) (Call.Refresh s ∷ post)
@@ -76,7 +73,7 @@ module _ (start : Bench) (sound_start : sound start ≡ true) where
         sent = λ ahead later k n.
             same_held (inbox (after start pre) s) d _ now-held
             (shows ahead (other_side s) (other_side_lem s) (inbox (after start pre) s) (same (sym (rw k (inbox_sent s hs ahead later n)))));
-        unsent = λ n. rw (inbox_unsent s hs pre n) at now-held;
+        unsent = λ n. rw (inbox_kept s hs pre start sound_start n) at now-held;
       })
 
   pub claim_from : (cs : List Call) → ClaimFrom start cs

@@ -1,25 +1,26 @@
 -- The laws of independent operation. A turn leaves the sets of two sides that have the approach pair engaged as they are; the rest is told by what one call does.
 -- Assumes nothing.
-use mathlib.Core.Path.{◌≡◌, refl, sym, ap, ◌∙◌, subst}
+use mathlib.Core.Path.{◌≡◌, refl, sym, ◌∙◌}
 use mathlib.Core.Bool.{Bool, true, false, not, cond}
 use Prim.Native.Nat.{ℕ, ◌≤◌}
 use native.Mathlib.Omega.{arith}
 use borrow.Author.Tests.{not-true}
-use lib.Dec.{T, eqb}
+use lib.Dec.{eqb}
 use lib.IntN.{ℤ}
 use lib.Ieee.Bits.{is_true}
 use lib.Count.{count_trailing_zeros}
 use Rattle.modes.specs.declared.ModeSet.{ModeSet}
-use Rattle.modes.specs.Sets.{PITCH, VS, ALTSEL, LAPPR, implies, engaged, engaged_in, approach_engaged}
+use Rattle.modes.specs.Sets.{ALTSEL, LAPPR, implies, engaged, engaged_in, approach_engaged}
 use Rattle.modes.proofs.Every.{at_sets}
 use Rattle.bench.specs.declared.References.{References}
 use Rattle.bench.specs.declared.Bench.{Bench}
 use Rattle.bench.specs.Parts.{with_shared, with_counts, with_box, with_references, count_of}
-use Rattle.bench.specs.Sides.{side, acts, where_acting, on_acting}
+use Rattle.bench.specs.Sides.{side}
 use Rattle.bench.specs.Independent.{both_approach, with_operation, begun, ended}
 use Rattle.bench.specs.Sound.{sound}
 use Rattle.bench.proofs.Replaced.{by_side}
-use Rattle.bench.proofs.SoundParts.{by_cond, and_left, and_right}
+use Rattle.bench.proofs.SoundParts.{by_cond, and_left, and_right, and_both}
+use Rattle.soundness.proofs.Kept.Changes.{either, acting}
 use Rattle.bench.proofs.Independent.{same_operation, sound_off, sound_stays}
 use Rattle.steps.specs.Steps.{acted}
 use Rattle.knobs.specs.Knobs.{referred, reference_moved, wheel_turned, altitude_turned, heading_turned, knob_turned, counted, turned}
@@ -36,63 +37,37 @@ use Rattle.claim.proofs.Shows.{side_approach}
 
 -- both sides have the sets that they had
 record SetsKept (x b : Bench) : Type 0 where
-  pub each : (s : ℕ) → s ≤ 1 → (side x s).set ≡ (side b s).set
-
-kept_refl : (b : Bench) → SetsKept b b
-kept_refl b = record { each = λ s h. refl }
+  pub left : x.left.set ≡ b.left.set
+  pub right : x.right.set ≡ b.right.set
 
 kept_trans : {x y z : Bench} → SetsKept x y → SetsKept y z → SetsKept x z
-kept_trans p q = record { each = λ s h. p.each s h ∙ q.each s h }
+kept_trans p q = search
 
 referred_kept : (r : References) (p : ℕ) → p ≤ 1 → (b : Bench) → SetsKept (referred r p b) b
 unfolding referred with_references with_box
-referred_kept r p hp b = record {
-  each = λ s hs.
-      by_side (λ (p : ℕ). (side (referred r p b) s).set ≡ (side b s).set)
-      (by_side (λ (s : ℕ). (side (referred r 0 b) s).set ≡ (side b s).set) refl refl s hs)
-      (by_side (λ (s : ℕ). (side (referred r 1 b) s).set ≡ (side b s).set) refl refl s hs) p hp;
-}
+referred_kept r p hp b = by_side (λ (p : ℕ). SetsKept (referred r p b) b) (search) (search) p hp
 
 -- VAPPR is the engaged vertical mode, so that ALTSEL is not
 not_altsel : (s : ModeSet) → approach_engaged s ≡ true → engaged_in ALTSEL s ≡ false
 unfolding engaged
-not_altsel s h = not-true _ (is_true _ (subst (λ (t : Bool). T (implies t (not (engaged_in ALTSEL s)))) h (at_sets (λ s. implies (approach_engaged s) (not (engaged_in ALTSEL s))) tt s)))
+not_altsel s h = not-true _ (is_true _ (rw h at (at_sets (λ s. implies (approach_engaged s) (not (engaged_in ALTSEL s))) tt s)))
 
-module _ (p : ℕ) (hp : p ≤ 1) (b : Bench) (h : approach_engaged (side b p).set ≡ true) where
-  -- in VAPPR the wheel does nothing
-  wheel_kept : (r : ℤ) → SetsKept (wheel_turned r p b) b
-  unfolding wheel_turned reference_moved
-  wheel_kept r =
-      let vappr = and_right (engaged_in LAPPR (side b p).set) _ h in
-      by_cond (λ (x : Bench). SetsKept x b) (engaged_in VS (side b p).set) _ _ (λ _. referred_kept _ p hp b)
-      (λ _. by_cond (λ (x : Bench). SetsKept x b) (engaged_in PITCH (side b p).set) _ _ (λ _. referred_kept _ p hp b)
-      (λ _. rw vappr (kept_refl b)))
+-- in VAPPR the wheel does nothing, and the altitude knob engages no PITCH
+knob_kept : (knob : ℕ) (r : ℤ) (p : ℕ) → p ≤ 1 → (b : Bench) → approach_engaged (side b p).set ≡ true → SetsKept (knob_turned knob r p b) b
+unfolding knob_turned wheel_turned altitude_turned reference_moved heading_turned
+knob_kept knob r p hp b h =
+    rw (and_right (engaged_in LAPPR (side b p).set) _ h, not_altsel (side b p).set h) (search (either (λ (x : Bench). SetsKept x b), referred_kept) depth 9)
 
-  altitude_kept : (r : ℤ) → SetsKept (altitude_turned r p b) b
-  unfolding altitude_turned
-  altitude_kept r = rw (not_altsel (side b p).set h) (referred_kept _ p hp b)
-
-  knob_kept : (knob : ℕ) (r : ℤ) → SetsKept (knob_turned knob r p b) b
-  unfolding knob_turned reference_moved heading_turned
-  knob_kept knob r =
-      by_cond (λ (x : Bench). SetsKept x b) (eqb knob 0) _ _ (λ _. wheel_kept r)
-      (λ _. by_cond (λ (x : Bench). SetsKept x b) (eqb knob 1) _ _ (λ _. altitude_kept r)
-      (λ _. by_cond (λ (x : Bench). SetsKept x b) (eqb knob 2) _ _ (λ _. referred_kept _ p hp b) (λ _. referred_kept _ p hp b)))
-
-  where_kept : (knob : ℕ) (r : ℤ) → SetsKept (where_acting (knob_turned knob r) p b) b
-  where_kept knob r = by_cond (λ (x : Bench). SetsKept x b) (acts b p) _ _ (λ _. knob_kept knob r) (λ _. kept_refl b)
-
-acting_kept : (knob : ℕ) (r : ℤ) (b : Bench) → ((s : ℕ) → s ≤ 1 → approach_engaged (side b s).set ≡ true) → SetsKept (on_acting (knob_turned knob r) b) b
-acting_kept knob r b h =
-    let left = where_kept 0 (omega arith) b (h 0 (omega arith)) knob r in
-    let x = where_acting (knob_turned knob r) 0 b in
-    kept_trans (where_kept 1 (omega arith) x (ap approach_engaged (left.each 1 (omega arith)) ∙ h 1 (omega arith)) knob r) left
+-- where both sides had the pair, they still have it
+still_approach : {x b : Bench} → SetsKept x b → ((s : ℕ) → s ≤ 1 → approach_engaged (side b s).set ≡ true) → (s : ℕ) → s ≤ 1 → approach_engaged (side x s).set ≡ true
+still_approach {x} k h = by_side (λ (s : ℕ). approach_engaged (side x s).set ≡ true) (rw k.left (h 0 (omega arith))) (rw k.right (h 1 (omega arith)))
 
 turned_kept : (knob n : ℕ) (b : Bench) → ((s : ℕ) → s ≤ 1 → approach_engaged (side b s).set ≡ true) → SetsKept (turned knob n b) b
 unfolding turned counted with_counts
 turned_kept knob n b h =
-    by_cond (λ (x : Bench). SetsKept x b) (eqb n (count_of knob b.counts)) _ _ (λ _. record { each = λ s l. refl })
-    (λ _. kept_trans (acting_kept knob _ (counted knob n b) h) (record { each = λ s l. refl }))
+    let k : SetsKept (counted knob n b) b = search in
+    either (λ (x : Bench). SetsKept x b) (eqb n (count_of knob b.counts)) _ _ k
+    (acting (λ (x : Bench). SetsKept x b) (knob_turned knob _) (λ s hs x _ k. kept_trans (knob_kept knob _ s hs x (still_approach k h s hs)) k) (counted knob n b) k)
 
 -- both sides have the pair, so that what is on stays on
 pair_stays : (x : Bench) → both_approach x ≡ true → ended x ≡ x
@@ -112,8 +87,8 @@ turn_keeps b knob n h =
 
     go : (t : Bool) → b.shared.independent ≡ t → (ended x).shared.independent ≡ b.shared.independent
     go true e =
-        let kept = turned_kept knob n b (side_approach b h e) in
-        let both : both_approach x ≡ true = unfold both_approach in rw (kept.each 0 (omega arith), kept.each 1 (omega arith), side_approach b h e 0 (omega arith)) (side_approach b h e 1 (omega arith)) in
+        let pair = still_approach (turned_kept knob n b (side_approach b h e)) (side_approach b h e) in
+        let both : both_approach x ≡ true = unfold both_approach in and_both _ _ (pair 0 (omega arith)) (pair 1 (omega arith)) in
         rw (pair_stays x both) stays
     go false e = ended_off x (stays ∙ e) ∙ sym e
 

@@ -1,6 +1,6 @@
 -- From one call to a list of calls, each by a short induction: soundness, refusals, PF, what an inbox holds, what a passive side holds and independent operation. Assumes nothing.
 use mathlib.Core.Path.{◌≡◌, refl, sym, ap, ◌∙◌}
-use mathlib.Core.Bool.{Bool, true, false, cond}
+use mathlib.Core.Bool.{true, false}
 use mathlib.Core.List.{List, [], ◌∷◌, ◌++◌, map}
 use Prim.Native.Nat.{ℕ, ◌≤◌}
 use lib.Dec.{eqb}
@@ -56,8 +56,9 @@ pub passive_kept : (s : ℕ) → s ≤ 1 → (cs : List Call) (b : Bench) → so
     → None (refreshes s) cs → None transfers cs → Same (side (after b cs) s) (side b s)
 passive_kept s hs [] b h o p r t = same refl
 passive_kept s hs (c ∷ cs) b h o p r t =
-    let still = (step c b h).pf ∙ ap (λ (m : Bool). cond m (other_side b.shared.pf) b.shared.pf) t.0 in
-    same_trans (passive_kept s hs cs (next b c) (next_sound b c h) o.1 (ap (eqb s) still ∙ p) r.1 t.1) ((step c b h).passive s hs (idle s b p o.0) r.0 t.0)
+    let one = step c b h in
+    let still : eqb s (next b c).shared.pf ≡ false = rw (one.pf, t.0) p in
+    same_trans (passive_kept s hs cs (next b c) (next_sound b c h) o.1 still r.1 t.1) (one.passive s hs (idle s b p o.0) r.0 t.0)
 
 -- a list without the switch of independent operation never has it on
 pub never_on : (cs : List Call) (b : Bench) → sound b ≡ true → b.shared.independent ≡ false → None asks_independent cs → OffThroughout b cs

@@ -1,10 +1,10 @@
 -- What one call does: its refusal, and what becomes of PF, of the inboxes, of a side that does not act and of independent operation. Assumes nothing.
 use mathlib.Core.Path.{◌≡◌, refl, sym, ap, ◌∙◌}
-use mathlib.Core.Bool.{Bool, true, false, not, cond, ◌&&◌, false≢true}
-use Prim.Native.Nat.{ℕ, zero, suc, ◌≤◌}
+use mathlib.Core.Bool.{Bool, true, false, not, cond, false≢true}
+use Prim.Native.Nat.{ℕ, zero, suc, ◌≤◌, ◌<◌}
 use native.Mathlib.Omega.{arith}
-use borrow.Author.Tests.{leb-true, leb-false, le-leb, eqb-true, eqb-false, ne_eqb, not-true}
-use lib.Dec.{eqb, leb}
+use borrow.Author.Tests.{le-leb, eqb-true, eqb-false, ne_eqb, not-true}
+use lib.Dec.{eqb}
 use lib.Ieee.Bits.{is_true}
 use lib.ListN.{drop}
 use lib.Count.{count_trailing_zeros}
@@ -29,25 +29,22 @@ use Rattle.calls.specs.declared.call.Call.{Call}
 use Rattle.calls.specs.Calls.{side_refusal, own_refusal, refusal, received, done, next, answer, event_answer, display_answer, refusal_in, reply}
 use Rattle.calls.specs.Sends.{sent, taken, refreshed}
 use Rattle.bench.proofs.SoundParts.{by_cond}
+use Rattle.soundness.proofs.Kept.Changes.{either}
+use Rattle.std.proofs.lemmas.Bool.Decides.{nat_tests}
 use Rattle.claim.specs.Lists.{accepted, transfers, refreshes, sends, asks_independent}
-use Rattle.claim.proofs.Sides.{Same, same, same_trans, box_other, box_written, inbox_apart, with_box_within, later_within, refreshed_within, Passive, acting_passive, turned_passive, begun_same, ended_same, ended_off}
+use Rattle.claim.proofs.Sides.{Same, same, same_trans, box_other, box_written, with_box_within, later_within, refreshed_within, Passive, acting_passive, turned_passive, begun_same, ended_same, ended_off}
 
 -- ---- refusals
 
--- a reply names the call's refusal
-pub reply_refusal : (b : Bench) (c : Call) → refusal_in (reply b c) ≡ refusal b c
-unfolding answer event_answer display_answer
-reply_refusal b (Call.Event word) = refl
-reply_refusal b (Call.Turn knob n) = refl
-reply_refusal b (Call.Reading r) = refl
-reply_refusal b (Call.Send s) = refl
-reply_refusal b (Call.Refresh s) = refl
-reply_refusal b (Call.Display s) = refl
-
 -- on a sound bench a call is refused for its own arguments only
 pub own_refusal_lem : (b : Bench) (c : Call) → sound b ≡ true → refusal_in (reply b c) ≡ own_refusal c
-unfolding refusal
-own_refusal_lem b c h = reply_refusal b c ∙ ap (λ (t : Bool). cond t (own_refusal c) 1) h
+unfolding answer event_answer display_answer refusal
+own_refusal_lem b (Call.Event word) h = rw h
+own_refusal_lem b (Call.Turn knob n) h = rw h
+own_refusal_lem b (Call.Reading r) h = rw h
+own_refusal_lem b (Call.Send s) h = rw h
+own_refusal_lem b (Call.Refresh s) h = rw h
+own_refusal_lem b (Call.Display s) h = rw h
 
 -- and does what its kind says if it is accepted, and nothing if not
 pub next_is : (b : Bench) (c : Call) → sound b ≡ true → next b c ≡ cond (accepted c) (ended (done c b)) b
@@ -60,24 +57,21 @@ Not1 n = n ≡ 1 → ⊥
 judged_not_1 : (r : Range) (w : Result ℤ NoWhole) → Not1 (judged r w)
 judged_not_1 r (Err NoWhole.NotFinite) = λ e. omega arith
 judged_not_1 r (Err NoWhole.Beyond) = λ e. omega arith
-judged_not_1 r (Ok z) = by_cond Not1 (within r z) 0 6 (λ _ e. omega arith) (λ _ e. omega arith)
-
-side_not_1 : (s : ℕ) → Not1 (side_refusal s)
-side_not_1 s = by_cond Not1 (leb s 1) 0 2 (λ _ e. omega arith) (λ _ e. omega arith)
+judged_not_1 r (Ok z) = either Not1 (within r z) 0 6 (λ e. omega arith) (λ e. omega arith)
 
 -- no call's own arguments give refusal 1
 pub own_not_1 : (c : Call) → Not1 (own_refusal c)
 unfolding refusal_of
-own_not_1 (Call.Event word) = by_cond Not1 (leb 2097152 word) 4 0 (λ _ e. omega arith) (λ _ e. omega arith)
-own_not_1 (Call.Turn knob n) = by_cond Not1 (leb knob 3) 0 3 (λ _ e. omega arith) (λ _ e. omega arith)
+own_not_1 (Call.Event word) = λ e. grind (arith, nat_tests)
+own_not_1 (Call.Turn knob n) = λ e. grind (arith, nat_tests)
 own_not_1 (Call.Reading r) = judged_not_1 (reading_range r) (whole_reading r)
-own_not_1 (Call.Send s) = side_not_1 s
-own_not_1 (Call.Refresh s) = side_not_1 s
-own_not_1 (Call.Display s) = side_not_1 s
+own_not_1 (Call.Send s) = λ e. grind (arith, nat_tests)
+own_not_1 (Call.Refresh s) = λ e. grind (arith, nat_tests)
+own_not_1 (Call.Display s) = λ e. grind (arith, nat_tests)
 
 -- a side that is accepted is a side
 is_side : (s : ℕ) → eqb (side_refusal s) 0 ≡ true → s ≤ 1
-is_side s = by_cond (λ (n : ℕ). eqb n 0 ≡ true → s ≤ 1) (leb s 1) 0 2 (λ e _. leb-true s 1 e) (λ _ e. absurd (let k = eqb-true 2 0 e in omega arith))
+is_side s e = grind (arith, nat_tests)
 
 pub side_accepted : (s : ℕ) → s ≤ 1 → side_refusal s ≡ 0
 side_accepted s h = rw (le-leb s 1 h)
@@ -109,11 +103,11 @@ independent_stays e t = rw (numbered_is 20 e t) mode_laws.independent_idle.trans
 
 -- and the switch of independent operation has no other number than 20
 only_20 : (n : ℕ) → is_independent (event_at n) ≡ true → n ≡ 20
-only_20 n t = go (leb 21 n) refl
-  where
-    go : (p : Bool) → leb 21 n ≡ p → n ≡ 20
-    go true h = let past : event_at n ≡ Event.NoEvent = pick_past Event.NoEvent numbered n (leb-true 21 n h) in absurd (let k = eqb-true 32 20 (rw past at t) in omega arith)
-    go false h = sym (mode_laws.number_back n (leb-false 21 n h)) ∙ eqb-true _ 20 t
+only_20 n t =
+    let it = eqb-true (event_number (event_at n)) 20 t in
+    let below : n < 21 → event_number (event_at n) ≡ n = mode_laws.number_back n in
+    let past : 21 ≤ n → event_number (event_at n) ≡ 32 = λ h. ap event_number (pick_past Event.NoEvent numbered n h) in
+    grind arith
 
 -- the first step changes the shared part, and of a side its FD alone
 first_shared : (e : Event) (b : Bench) → (first_step e b).shared ≡ shared_after e b.shared
@@ -126,7 +120,7 @@ first_inbox e b s hs = (with_box_within 0 (omega arith) _ _).inboxes s hs ∙ (w
 
 first_side : (e : Event) (b : Bench) (s : ℕ) → s ≤ 1 → Same (side (first_step e b) s) (side b s)
 unfolding first_step with_fd_after with_box with_fd with_shared
-first_side e b s hs = by_side (λ (s : ℕ). Same (side (first_step e b) s) (side b s)) (record { set = refl; references = refl }) (record { set = refl; references = refl }) s hs
+first_side e b s hs = by_side (λ (s : ℕ). Same (side (first_step e b) s) (side b s)) (search) (search) s hs
 
 -- what an accepted event does, by its number n
 module _ (n : ℕ) (b : Bench) where
@@ -138,36 +132,12 @@ module _ (n : ℕ) (b : Bench) where
   unfolding three_steps
   later = acting_passive (later_steps e b.shared.overspeed) (λ p hp x. later_within p hp e b.shared.overspeed x) (first_step e b)
 
-  stays_pf : (line_of e).transfers ≡ false → b.shared.pf ≡ cond (eqb n 5) (other_side b.shared.pf) b.shared.pf
-  stays_pf k = rw (← moves_pf n, k)
-
-  acted_pf : (acted e b).shared.pf ≡ cond (eqb n 5) (other_side b.shared.pf) b.shared.pf
-  unfolding shared_after
-  acted_pf =
-      by_event (λ (x : Bench). x.shared.pf ≡ cond (eqb n 5) (other_side b.shared.pf) b.shared.pf) e b
-      (λ t. stays_pf (none_stays e t)) (λ t. (begun_same b).pf ∙ stays_pf (independent_stays e t)) (rw (later.shared, first_shared e b, moves_pf n))
-
-  acted_inbox : (s : ℕ) → s ≤ 1 → inbox (acted e b) s ≡ inbox b s
-  acted_inbox s hs = by_event (λ (x : Bench). inbox x s ≡ inbox b s) e b (λ _. refl) (λ _. (begun_same b).inboxes s) (later.inboxes s hs ∙ first_inbox e b s hs)
-
   -- who acts after the first step, unless it is a transfer's
   still_acts : (s : ℕ) → eqb n 5 ≡ false → acts (first_step e b) s ≡ acts b s
   unfolding acts shared_after
   still_acts s t = rw (first_shared e b, moves_pf n, t)
 
-  acted_passive : (s : ℕ) → s ≤ 1 → acts b s ≡ false → eqb n 5 ≡ false → Same (side (acted e b) s) (side b s)
-  acted_passive s hs passive t =
-      by_event (λ (x : Bench). Same (side x s) (side b s)) e b (λ _. same refl) (λ _. same ((begun_same b).sides s))
-      (same_trans (same (later.side_kept s hs (still_acts s t ∙ passive))) (first_side e b s hs))
-
-  -- only event 20 turns independent operation on
-  acted_off : eqb n 20 ≡ false → b.shared.independent ≡ false → (acted e b).shared.independent ≡ false
-  unfolding shared_after
-  acted_off k off =
-      by_event (λ (x : Bench). x.shared.independent ≡ false) e b (λ _. off) (λ t. absurd (eqb-false n 20 k (only_20 n t)))
-      (rw (later.shared, first_shared e b) (by_cond (λ (x : Bool). x ≡ false) (line_of e).transfers false b.shared.independent (λ _. refl) (λ _. off)))
-
-  -- and a transfer leaves it off
+  -- a transfer leaves independent operation off
   pub acted_transfer : eqb n 5 ≡ true → (acted e b).shared.independent ≡ false
   unfolding shared_after
   acted_transfer k =
@@ -183,9 +153,18 @@ pub record Step (c : Call) (b x : Bench) : Type 0 where
   pub passive : (s : ℕ) → s ≤ 1 → acts b s ≡ false → refreshes s c ≡ false → transfers c ≡ false → Same (side x s) (side b s)
   pub off : asks_independent c ≡ false → b.shared.independent ≡ false → x.shared.independent ≡ false
 
+-- a call that leaves the shared part, the inboxes and a side that does not act as they were, and is no transfer
+passive_step : (c : Call) (b x : Bench) → transfers c ≡ false → Passive x b → Step c b x
+passive_step c b x t w = record {
+  pf = rw (t, w.shared);
+  inboxes = λ s hs k. w.inboxes s hs;
+  passive = λ s hs p k l. same (w.side_kept s hs p);
+  off = λ k h. rw w.shared h;
+}
+
 -- a call that is not accepted moves nothing
 refused_step : (c : Call) (b : Bench) → accepted c ≡ false → Step c b b
-refused_step c b e = record { pf = rw (still c e); inboxes = λ s hs k. refl; passive = λ s hs n k l. same refl; off = λ k h. h }
+refused_step c b e = passive_step c b b (still c e) (search)
   where
     still : (c : Call) → accepted c ≡ false → transfers c ≡ false
     still (Call.Event word) e = rw e
@@ -195,45 +174,56 @@ refused_step c b e = record { pf = rw (still c e); inboxes = λ s hs k. refl; pa
     still (Call.Refresh s) e = refl
     still (Call.Display s) e = refl
 
--- a test that holds leaves the other one
-and_rest : (t u v : Bool) → t ≡ true → (t && u) ≡ v → u ≡ v
-and_rest true u v e h = h
-and_rest false u v e h = cc
-
--- two sides that are not each other's other are the same one, so that their inboxes are apart
-inboxes_apart : (s t : ℕ) → s ≤ 1 → t ≤ 1 → eqb t (other_side s) ≡ false → inbox_of (other_side t) ≡ inbox_of s → ⊥
-inboxes_apart s t hs ht =
-    by_side (λ (s : ℕ). eqb t (other_side s) ≡ false → inbox_of (other_side t) ≡ inbox_of s → ⊥)
-    (by_side (λ (t : ℕ). eqb t 1 ≡ false → inbox_of (other_side t) ≡ 2 → ⊥) (λ k e. omega arith) (λ k e. absurd (eqb-false 1 1 k refl)) t ht)
-    (by_side (λ (t : ℕ). eqb t 0 ≡ false → inbox_of (other_side t) ≡ 3 → ⊥) (λ k e. absurd (eqb-false 0 0 k refl)) (λ k e. omega arith) t ht) s hs
-
 pub other_side_lem : (s : ℕ) → other_side s ≤ 1
-other_side_lem s = by_cond (λ (n : ℕ). n ≤ 1) (eqb s 0) 1 0 (λ _. omega arith) (λ _. omega arith)
+other_side_lem s = grind (arith, nat_tests)
+
+-- an accepted event does nothing, begins independent operation or goes through the three steps
+event_step : (word : ℕ) (b : Bench) → accepted (Call.Event word) ≡ true → Step (Call.Event word) b (acted (event_at (count_trailing_zeros 32 word)) b)
+unfolding shared_after
+event_step word b a =
+    let n = count_trailing_zeros 32 word in
+    let l = later n b in
+    let w = begun_same b in
+    let stays : (line_of (event_at n)).transfers ≡ false → eqb n 5 ≡ false = λ e. sym (moves_pf n) ∙ e in
+    by_event (Step (Call.Event word) b) (event_at n) b
+    (λ t. passive_step (Call.Event word) b b (rw a (stays (none_stays (event_at n) t))) (search))
+    (λ t. record {
+      pf = rw (a, stays (independent_stays (event_at n) t)) w.pf;
+      inboxes = λ s hs k. w.inboxes s;
+      passive = λ s hs p k m. same (w.sides s);
+      off = λ k h. absurd (eqb-false n 20 (rw a at k) (only_20 n t));
+    })
+    (record {
+      pf = rw (l.shared, first_shared (event_at n) b, moves_pf n, a);
+      inboxes = λ s hs k. l.inboxes s hs ∙ first_inbox (event_at n) b s hs;
+      passive = λ s hs p k m. same_trans (same (l.side_kept s hs (still_acts n b s (rw a at m) ∙ p))) (first_side (event_at n) b s hs);
+      off = λ k h. rw (l.shared, first_shared (event_at n) b) (either (λ (x : Bool). x ≡ false) (line_of (event_at n)).transfers _ _ refl h);
+    })
 
 send_step : (t : ℕ) (b : Bench) → accepted (Call.Send t) ≡ true → Step (Call.Send t) b (sent t b)
 unfolding sent
 send_step t b e = record {
   pf = unfold with_box in refl;
-  inboxes = λ s hs k. box_other (inbox_of (other_side t)) (inbox_of s) (side b t) b (inbox_apart s hs s hs).0 (inboxes_apart s t hs (is_side t e) (and_rest _ _ _ e k));
-  passive = λ s hs n k l. same (box_other (inbox_of (other_side t)) s (side b t) b (omega arith) (λ q. (inbox_apart s hs (other_side t) (other_side_lem t)).1 (sym q)));
+  -- two sides that are not each other's other are the same one
+  inboxes = λ s hs k.
+      let ht = is_side t e in
+      let apart : eqb t (other_side s) ≡ false = rw e at k in
+      box_other (inbox_of (other_side t)) (inbox_of s) (side b t) b (grind (arith, nat_tests)) (λ q. grind (arith, nat_tests));
+  passive = λ s hs n k l. same (box_other (inbox_of (other_side t)) s (side b t) b (omega arith) (λ q. grind (arith, nat_tests)));
   off = unfold with_box in λ k h. h;
 }
 
 -- what an accepted call does
 done_step : (c : Call) (b : Bench) → accepted c ≡ true → Step c b (done c b)
 unfolding received with_readings with_wholes
-done_step (Call.Event word) b e =
-    let n = count_trailing_zeros 32 word in
-    record { pf = rw e (acted_pf n b); inboxes = λ s hs k. acted_inbox n b s hs; passive = λ s hs p k l. acted_passive n b s hs p (and_rest _ _ _ e l); off = λ k h. acted_off n b (and_rest _ _ _ e k) h }
-done_step (Call.Turn knob n) b e =
-    let w = turned_passive knob n b in
-    record { pf = rw w.shared; inboxes = λ s hs k. w.inboxes s hs; passive = λ s hs p k l. same (w.side_kept s hs p); off = λ k h. rw w.shared h }
-done_step (Call.Reading r) b e = record { pf = refl; inboxes = λ s hs k. refl; passive = λ s hs n k l. same refl; off = λ k h. h }
+done_step (Call.Event word) b e = event_step word b e
+done_step (Call.Turn knob n) b e = passive_step (Call.Turn knob n) b _ refl (turned_passive knob n b)
+done_step (Call.Reading r) b e = passive_step (Call.Reading r) b _ refl (search)
 done_step (Call.Send t) b e = send_step t b e
 done_step (Call.Refresh t) b e =
     let w = refreshed_within t (is_side t e) b in
-    record { pf = rw w.shared; inboxes = λ s hs k. w.inboxes s hs; passive = λ s hs p k l. same (w.other s hs (eqb-false t s (and_rest _ _ _ e k))); off = λ k h. rw w.shared h }
-done_step (Call.Display t) b e = record { pf = refl; inboxes = λ s hs k. refl; passive = λ s hs n k l. same refl; off = λ k h. h }
+    record { pf = rw w.shared; inboxes = λ s hs k. w.inboxes s hs; passive = λ s hs p k l. same (w.other s hs (eqb-false t s (rw e at k))); off = λ k h. rw w.shared h }
+done_step (Call.Display t) b e = passive_step (Call.Display t) b b refl (search)
 
 -- and what is left when independent operation was looked at
 ended_step : (c : Call) (b x : Bench) → Step c b x → Step c b (ended x)
@@ -263,7 +253,7 @@ pub refreshed_side : (s : ℕ) → s ≤ 1 → (b : Bench) → sound b ≡ true 
 unfolding refreshed taken with_set with_references
 refreshed_side s hs b h n =
     rw (next_is b (Call.Refresh s) h, side_accepted s hs)
-    (same_trans (same ((ended_same (refreshed s b)).sides s)) (rw n (same_trans (same (box_written s _ b (omega arith))) (record { set = refl; references = refl }))))
+    (same_trans (same ((ended_same (refreshed s b)).sides s)) (rw n (same_trans (same (box_written s _ b (omega arith))) (search))))
 
 -- ---- on an unsound bench every call is refused with 1, and hands the bench back
 

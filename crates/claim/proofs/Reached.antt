@@ -1,11 +1,12 @@
 -- Every law is reached, independent operation comes and goes, and the premises of the passive side's rule are met, by computing with the rules. Assumes nothing.
 use mathlib.Core.Path.{◌≡◌, refl, ap}
-use mathlib.Core.Bool.{Bool, true, false, and-eq-true_iff}
+use mathlib.Core.Bool.{Bool, true, false}
 use mathlib.Core.Logic.{◌⊎◌, inl, inr}
 use mathlib.Core.List.{List, [], ◌∷◌, ◌++◌}
 use Prim.Native.Nat.{ℕ, zero, suc, ◌≤◌}
 use native.Mathlib.Omega.{arith}
 use borrow.Author.Tests.{eqb-true}
+use Rattle.bench.proofs.SoundParts.{and_right}
 use Rattle.calls.specs.declared.call.Call.{Call}
 use Rattle.claim.specs.Lists.{accepted, refreshes, sends, None}
 use Rattle.claim.specs.Reached.{Lateral, Vertical, TurnsOn, Ends, Speaks, SpeaksUnsent, SpeaksAgain, Silent, Last, Reached}
@@ -161,32 +162,24 @@ speaks_again = record {
 }
 
 -- a list has a last call of a kind, or none, where the kind is that of one call only
-module _ (kind : Call → Bool) (c : Call) (only : (x : Call) → kind x ≡ true → x ≡ c) where
+module _ (kind : Call → Bool) (c : Call) (is_c : (x : Call) → kind x ≡ true → x ≡ c) where
   last : (cs : List Call) → Last kind c cs ⊎ None kind cs
   last [] = inr tt
   last (x ∷ cs) = go (kind x) refl (last cs)
     where
       go : (t : Bool) → kind x ≡ t → Last kind c cs ⊎ None kind cs → Last kind c (x ∷ cs) ⊎ None kind (x ∷ cs)
       go t e (inl l) = inl (record { ahead = x ∷ l.ahead; later = l.later; split = ap (λ (ys : List Call). x ∷ ys) l.split; last = l.last })
-      go true e (inr n) = inl (record { ahead = []; later = cs; split = ap (λ (y : Call). y ∷ cs) (only x e); last = n })
+      go true e (inr n) = inl (record { ahead = []; later = cs; split = ap (λ (y : Call). y ∷ cs) (is_c x e); last = n })
       go false e (inr n) = inr (e, n)
 
--- an accepted send of side s is the call `send s`
-only_send : (s : ℕ) (x : Call) → sends s x ≡ true → x ≡ Call.Send s
-only_send s (Call.Event word) e = cc
-only_send s (Call.Turn knob n) e = cc
-only_send s (Call.Reading r) e = cc
-only_send s (Call.Send t) e = ap Call.Send (eqb-true t s ((and-eq-true_iff (accepted (Call.Send t)) _).0 e).1)
-only_send s (Call.Refresh t) e = cc
-only_send s (Call.Display t) e = cc
-
-only_refresh : (s : ℕ) (x : Call) → refreshes s x ≡ true → x ≡ Call.Refresh s
-only_refresh s (Call.Event word) e = cc
-only_refresh s (Call.Turn knob n) e = cc
-only_refresh s (Call.Reading r) e = cc
-only_refresh s (Call.Send t) e = cc
-only_refresh s (Call.Refresh t) e = ap Call.Refresh (eqb-true t s ((and-eq-true_iff (accepted (Call.Refresh t)) _).0 e).1)
-only_refresh s (Call.Display t) e = cc
+-- an accepted send of side s is the call `send s`, and so with a refresh
+only : (s : ℕ) (x : Call) → (sends s x ≡ true → x ≡ Call.Send s) × (refreshes s x ≡ true → x ≡ Call.Refresh s)
+only s (Call.Event word) = (λ e. cc, λ e. cc)
+only s (Call.Turn knob n) = (λ e. cc, λ e. cc)
+only s (Call.Reading r) = (λ e. cc, λ e. cc)
+only s (Call.Send t) = (λ e. ap Call.Send (eqb-true t s (and_right (accepted (Call.Send t)) _ e)), λ e. cc)
+only s (Call.Refresh t) = (λ e. cc, λ e. ap Call.Refresh (eqb-true t s (and_right (accepted (Call.Refresh t)) _ e)))
+only s (Call.Display t) = (λ e. cc, λ e. cc)
 
 pub reached : Reached
 unfolding rules
@@ -202,8 +195,8 @@ reached = record {
   speaks_unsent = speaks_unsent;
   speaks_again = speaks_again;
   silent = silent;
-  last_send = λ s. last (sends s) (Call.Send s) (only_send s);
-  last_refresh = λ s. last (refreshes s) (Call.Refresh s) (only_refresh s);
+  last_send = λ s. last (sends s) (Call.Send s) (λ x. (only s x).0);
+  last_refresh = λ s. last (refreshes s) (Call.Refresh s) (λ x. (only s x).1);
   started_at_90 = refl;
   refused_at_59 = refl;
 }

@@ -1,16 +1,17 @@
 -- What a display of a sound bench shows: it meets what `Keeps` asks for, by computing over all representable sets. Assumes nothing.
-use mathlib.Core.Path.{◌≡◌, refl, sym, ap, ◌∙◌}
-use mathlib.Core.Bool.{Bool, true, false, not, ◌&&◌, false≢true, true≢false}
+use mathlib.Core.Path.{◌≡◌, refl, ap, ◌∙◌}
+use mathlib.Core.Bool.{Bool, true, not, ◌&&◌, false≢true, true≢false}
 use Prim.Native.Nat.{ℕ, ◌≤◌, ◌/◌, ◌%◌}
 use native.Mathlib.Omega.{arith}
 use borrow.Author.Tests.{eqb-true, eqb-false, eq-eqb, not-true}
 use lib.Dec.{T, eqb}
+use lib.Ieee.Bits.{is_true}
 use Rattle.modes.specs.declared.Modes.{Modes}
 use Rattle.modes.specs.declared.ModeSet.{ModeSet}
 use Rattle.modes.specs.Every.{every_modes}
 use Rattle.modes.proofs.Every.{at_modes}
-use Rattle.modes.proofs.Joins.{lateral_shown, vertical_shown}
-use Rattle.modes.specs.Sets.{LAPPR, VAPPR, implies, engaged, armed, cleared, once, coherent, coherent_set, engaged_in, approach_engaged, is_off}
+use Rattle.modes.proofs.Joins.{approach_shown}
+use Rattle.modes.specs.Sets.{implies, engaged, armed, cleared, once, coherent, coherent_set, approach_engaged, is_off}
 use Rattle.modes.specs.Numbers.{lateral_number, vertical_number, lateral_law, vertical_law, armed_sum}
 use Rattle.bench.specs.declared.References.{References}
 use Rattle.bench.specs.declared.Channel.{Channel}
@@ -42,13 +43,7 @@ arms n m = eqb (armed_sum (ModeSet.On m) / n % 2) 1
 -- in every coherent set q holds wherever p does, if it computes so over all sets
 whenever : (p q : Modes → Bool) → T (every_modes (λ m. implies (coherent m) (implies (p m) (q m))))
     → (m : Modes) → coherent m ≡ true → p m ≡ true → q m ≡ true
-whenever p q t m = go (coherent m) (p m) (q m) (at_modes (λ m. implies (coherent m) (implies (p m) (q m))) t m)
-  where
-    go : (a b c : Bool) → T (implies a (implies b c)) → a ≡ true → b ≡ true → c ≡ true
-    go true true true t h k = refl
-    go true true false t h k = absurd t
-    go true false c t h k = cc
-    go false b c t h k = cc
+whenever p q t m h k = is_true _ (rw (h, k) at (at_modes (λ m. implies (coherent m) (implies (p m) (q m))) t m))
 
 -- the mode whose law is k is not armed by its number n while that law is shown
 never : (law : Modes → ℕ) (k n : ℕ) → T (every_modes (λ m. implies (coherent m) (implies (eqb (law m) k) (not (arms n m)))))
@@ -104,9 +99,7 @@ module _ (b : Bench) (h : sound b ≡ true) (s : ℕ) (hs : s ≤ 1) where
 
 -- with independent operation on, a side shows laws 4 and 7
 approach_laws : (set : ModeSet) → approach_engaged set ≡ true → (lateral_law set ≡ 4) × (vertical_law set ≡ 7)
-unfolding engaged
-approach_laws set h =
-    (eqb-true _ 4 (lateral_shown 4 LAPPR tt set ∙ and_left _ _ h), eqb-true _ 7 (vertical_shown 7 VAPPR tt set ∙ and_right (engaged_in LAPPR set) _ h))
+approach_laws set h = let k = approach_shown set ∙ h in (eqb-true _ 4 (and_left _ _ k), eqb-true _ 7 (and_right (eqb (lateral_law set) 4) _ k))
 
 pub side_approach : (b : Bench) → sound b ≡ true → b.shared.independent ≡ true → (s : ℕ) → s ≤ 1 → approach_engaged (side b s).set ≡ true
 unfolding independent_sound both_approach
@@ -126,9 +119,4 @@ shows_held x s c e = record { lateral = ap lateral_law e.set; vertical = ap vert
 
 -- two displays that show the same channel show the same
 pub same_held : (c : Channel) (x y : Display) → ShowsHeld c x → ShowsHeld c y → SameShown x y
-same_held c x y p q = record {
-  lateral = p.lateral ∙ sym q.lateral;
-  vertical = p.vertical ∙ sym q.vertical;
-  armed = p.armed ∙ sym q.armed;
-  references = p.references ∙ sym q.references;
-}
+same_held c x y p q = search

@@ -114,8 +114,8 @@ pub fn set_code(s: ModeSet) -> u32
 }
 
 // The lateral mode of a law; LGA where the number is none's.
-// Stays: modes_by has modes for any numbers and cannot fail, here and in the two below. A TryFrom beside them would
-// have no caller.
+// Stays: modes_by has modes for any numbers and cannot fail, here and in the two below. The TryFrom of modes refuses
+// a number that no mode has.
 fn lateral_by(n: u64) -> Lateral
     ensures { result ≡ lateral_by n }
 {

@@ -66,6 +66,15 @@ fn put_read(out: &mut Outlet, area: &[u8], start: u64) -> fmt::Result {
     writeln!(out, "read{}", Numbers(&frames::read(area, start as usize)))
 }
 
+// A byte as two hexadecimal digits. To format each as a number would take many times as long.
+fn digits(byte: u8) -> [u8; 2] {
+    const DIGITS: &[u8; 16] = b"0123456789abcdef";
+    [
+        DIGITS[usize::from(byte / 16)],
+        DIGITS[usize::from(byte % 16)],
+    ]
+}
+
 // The bytes of the area; an empty one has not even a space.
 fn put_bytes(out: &mut Outlet, area: &[u8]) -> fmt::Result {
     out.write_str("bytes")?;
@@ -73,7 +82,7 @@ fn put_bytes(out: &mut Outlet, area: &[u8]) -> fmt::Result {
         out.write_str(" ")?;
     }
     for byte in area {
-        write!(out, "{byte:02x}")?;
+        out.put(&digits(*byte));
     }
     out.write_str("\n")
 }

@@ -76,6 +76,7 @@ fn read_piece(script: &mut Stdin, input: &mut [u8]) -> usize
 // An empty piece is the script's end. A write that failed ends the program with its error.
 fn main(rt: HostRuntime) -> Result<(), Error> {
     let mut script = rt.stdin();
+    // Stays: a read fills a buffer that it is lent and says how much, and the console's have a fixed size.
     let mut input = io::large_buffer();
     let mut console = Console {
         session: Session::begin(),

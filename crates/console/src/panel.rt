@@ -60,6 +60,8 @@ impl Panel {
 }
 
 // What stands in a row of a panel.
+// Stays: a row goes by its number, since both panels stand in one line of text and a row of each is written in turn; an
+// enum of the seventeen would be counted through in the same way.
 #[derive(Clone, Copy)]
 struct Row {
     panel: Panel,
@@ -208,6 +210,7 @@ fn armed_vertical_name(sum: u32) -> &'static str {
 // ---- targets
 
 // The place of the reference that a lateral law steers to.
+// Stays: a law and a place go by number here and below, as a display and `reference_at` have them.
 fn lateral_target(law: u32) -> Option<u32> {
     match law {
         1 => Some(ROLL),

@@ -9,8 +9,8 @@ use modes::sets::{engages_alt, engages_flc, engages_hdg, engages_vs, selects_lap
 use modes::{Event, ModeSet};
 
 // The event of a number, and none above 20.
-// Stays: `From` would say that nothing is lost, while all numbers above 20 give one event; and with
-// `TryFrom` each caller would put that event in by itself.
+// Stays: `From` would say that nothing is lost, while all numbers above 20 give one event; and this, a public function,
+// has an event for every number and cannot fail, as `TryFrom` can.
 pub fn event_at(number: u32) -> Event
     ensures { result ≡ event_at number }
 {
@@ -45,9 +45,8 @@ pub fn ap_after(e: Event, engaged: bool) -> bool
     ensures { result ≡ (line_of e).ap engaged }
 {
     match e {
-        Event::ApDisconnect => false,
+        Event::ApDisconnect | Event::GoAround => false,
         Event::ApSwitch => !engaged,
-        Event::GoAround => false,
         _ => engaged,
     }
 }

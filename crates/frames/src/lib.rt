@@ -181,8 +181,5 @@ pub fn read_frame(part: &[u8]) -> Result<Frame, Refusal>
 pub fn read(area: &[u8], start: usize) -> Result<Frame, Refusal>
     ensures { as_read result ≡ read_at start area.now }
 {
-    if area.len() < start {
-        return Err(Refusal::NoRoom);
-    }
-    read_frame(&area[start..])
+    read_frame(area.get(start..).ok_or(Refusal::NoRoom)?)
 }

@@ -7,6 +7,7 @@ ghost use Rattle.guidance.specs.Picker.{picked_of, as_picked};
 
 use bench::Bench;
 use bench::answers::Refusal;
+use calls::answers::Display;
 
 // The two laws of a display.
 #[derive(Clone, Copy)]
@@ -20,9 +21,10 @@ pub struct Laws {
 pub fn pick(b: Bench, side: u32) -> Result<Laws, Refusal>
     ensures { as_picked result ≡ picked_of b side }
 {
-    let shown = calls::display(b, side).outcome?;
-    Ok(Laws {
-        lateral: shown.lateral,
-        vertical: shown.vertical,
-    })
+    let Display {
+        lateral,
+        vertical,
+        ..
+    } = calls::display(b, side).outcome?;
+    Ok(Laws { lateral, vertical })
 }

@@ -8,7 +8,7 @@ ghost use Rattle.modes.specs.Sets.{PITCH, ALTSEL, engage, engaged_in, in_on};
 ghost use Rattle.knobs.specs.Knobs.{counted, moved, referred, reference_moved, pitched, differ, wheel_turned, altitude_moved, altitude_turned, heading_moved, heading_turned, knob_turned, turned};
 
 use bench::parts::{
-    HEADING, IAS, PRESELECTED, VERTICAL_SPEED, box_of, reference_at, with_box, with_reference,
+    IAS, PRESELECTED, VERTICAL_SPEED, box_of, reference_at, with_box, with_reference,
 };
 use bench::{Bench, Channel, References};
 use modes::ModeSet;
@@ -88,8 +88,9 @@ fn move_reference(b: Bench, side: u32, place: u32, rotation: Rotation) -> Bench
 }
 
 // PITCH in a set that is On.
-// Stays: one function for this match and that of an event's mode change would take a closure, which has
-// to be callable, and no public function of this repository asks anything of its callers.
+// Stays: one function for this match and that of an event's mode change, in another crate, would be public and take
+// a closure, which has to be callable, and no public function of this repository asks anything of its callers. A
+// trait in its place would want two structs for two matches.
 fn pitch_in(s: ModeSet) -> ModeSet
     ensures { result ≡ in_on (engage PITCH) s }
 {
@@ -116,10 +117,9 @@ fn turn_wheel(b: Bench, side: u32, rotation: Rotation) -> Bench
     let c = box_of(b, side);
     let law = modes::numbers::vertical_law(c.set);
     match law {
-        0 => b,
+        0 | 7 => b,
         1 => move_reference(b, side, bench::parts::PITCH, rotation),
         2 => move_reference(b, side, VERTICAL_SPEED, rotation),
-        7 => b,
         _ => engage_pitch_on(b, side),
     }
 }
@@ -162,15 +162,14 @@ fn turn_altitude(b: Bench, side: u32, rotation: Rotation) -> Bench
     }
 }
 
-#[tactic(auto, unfolding(crate::specs::Knobs::heading_moved))]
+#[tactic(auto, unfolding(crate::specs::Knobs::heading_moved, bench::specs::Parts::with_reference))]
 fn move_heading(r: References, amount: i32) -> References
     ensures { result ≡ heading_moved amount r }
 {
-    with_reference(
-        r,
-        HEADING,
-        rotation::heading_add(reference_at(r, HEADING), amount),
-    )
+    References {
+        heading: rotation::heading_add(r.heading, amount),
+        ..r
+    }
 }
 
 fn turn_heading(b: Bench, side: u32, rotation: Rotation) -> Bench

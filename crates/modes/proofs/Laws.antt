@@ -16,6 +16,7 @@ use Rattle.modes.specs.Events.{capture_vappr, track, switch, switch_nav, switch_
 use Rattle.modes.specs.Laws.{Idle, ModeLaws}
 use Rattle.modes.proofs.Finite.{at, both_left, both_right}
 use Rattle.modes.proofs.Every.{flags, events, at_modes, back_events}
+use Rattle.modes.proofs.ByNumber.{lateral_numbers, armed_numbers, vertical_numbers}
 
 pub coherent_sets : count_modes coherent ≡ 107
 unfolding coherent once cleared armed engaged
@@ -43,4 +44,4 @@ idle : Idle (line_of Event.NoEvent)
 idle = record { ap = λ x. refl; flag = λ x. refl; transfers = refl; pressed = λ s. refl; asks_fd = λ x y s. refl; change = λ flag m. refl }
 
 pub mode_laws : ModeLaws
-mode_laws = record { coherent_sets = coherent_sets; change_coherent = change_coherent; event_back = back_events; number_back = λ n h. let e = counted 0 n numbered tt h in omega arith; none_idle = idle; independent_idle = idle }
+mode_laws = record { coherent_sets = coherent_sets; change_coherent = change_coherent; event_back = back_events; number_back = λ n h. let e = counted 0 n numbered tt h in omega arith; none_idle = idle; independent_idle = idle; lateral_numbers = lateral_numbers; armed_numbers = armed_numbers; vertical_numbers = vertical_numbers }

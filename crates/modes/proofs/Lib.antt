@@ -1,4 +1,5 @@
 pub mod Finite
 pub mod Every
+pub mod ByNumber
 pub mod Laws
 pub mod Joins

@@ -1,6 +1,7 @@
 -- The numbers that a display shows of a set. Document 01, 'Display'.
-use Rattle.std.specs.Prelude.{Bool, not, cond, ℕ, ◌+◌}
+use Rattle.std.specs.Prelude.{Bool, not, cond, ℕ, ◌+◌, eqb, Option, Some, None}
 use Rattle.modes.specs.declared.Lateral.{Lateral}
+use Rattle.modes.specs.declared.ArmedLateral.{ArmedLateral}
 use Rattle.modes.specs.declared.Vertical.{Vertical}
 use Rattle.modes.specs.declared.ModeSet.{ModeSet}
 use Rattle.modes.specs.Sets.{NAV, LAPPR, ALTSEL, VAPPR, HDG, VS, FLC, ALT, engaged, armed, cleared}
@@ -21,6 +22,35 @@ vertical_number Vertical.AltselCapture = 5
 vertical_number Vertical.AltselTrack = 6
 vertical_number Vertical.Vappr = 7
 vertical_number Vertical.Vga = 8
+
+-- the mode of a number, if one has it
+abbrev pub lateral_of : ℕ → Option Lateral
+lateral_of n =
+    cond (eqb n 1) (Some Lateral.Roll)
+    (cond (eqb n 2) (Some Lateral.Hdg)
+    (cond (eqb n 3) (Some Lateral.Nav)
+    (cond (eqb n 4) (Some Lateral.Lappr)
+    (cond (eqb n 5) (Some Lateral.Lga)
+    None))))
+
+abbrev pub armed_of : ℕ → Option ArmedLateral
+armed_of n =
+    cond (eqb n 0) (Some ArmedLateral.Neither)
+    (cond (eqb n 1) (Some ArmedLateral.Nav)
+    (cond (eqb n 2) (Some ArmedLateral.Lappr)
+    None))
+
+abbrev pub vertical_of : ℕ → Option Vertical
+vertical_of n =
+    cond (eqb n 1) (Some Vertical.Pitch)
+    (cond (eqb n 2) (Some Vertical.Vs)
+    (cond (eqb n 3) (Some Vertical.Flc)
+    (cond (eqb n 4) (Some Vertical.Alt)
+    (cond (eqb n 5) (Some Vertical.AltselCapture)
+    (cond (eqb n 6) (Some Vertical.AltselTrack)
+    (cond (eqb n 7) (Some Vertical.Vappr)
+    (cond (eqb n 8) (Some Vertical.Vga)
+    None)))))))
 
 -- the lateral law: that of the engaged lateral mode, and 0 where the set is Off
 abbrev pub lateral_law : ModeSet → ℕ

@@ -1,11 +1,16 @@
 // The numbers that a display shows of a set: laws, armed sum, mode lamps.
 ghost use Rattle.std.specs.Prelude.{◌≡◌};
-ghost use Rattle.modes.specs.Numbers.{lateral_number, vertical_number, lateral_law, vertical_law, armed_sum, mode_lamps, worth};
+ghost use Rattle.std.specs.Result.{result_ok};
+ghost use Rattle.modes.specs.Numbers.{lateral_number, vertical_number, lateral_of, armed_of, vertical_of, lateral_law, vertical_law, armed_sum, mode_lamps, worth};
 ghost use Rattle.modes.specs.Sets.{arms_nav, arms_lappr};
 ghost use Rattle.modes.specs.Every.{armed_number};
 ghost use Rattle.modes.specs.Private.{altsel_number, lateral_lamp, armed_lamp, vertical_lamp};
 
 use crate::{ArmedLateral, Lateral, ModeSet, Vertical};
+
+// A number that no mode has.
+#[derive(Clone, Copy)]
+pub struct NoMode;
 
 impl From<Lateral> for u32 {
     ghost from_gives = { λ l n. n ≡ lateral_number l };
@@ -17,6 +22,24 @@ impl From<Lateral> for u32 {
             Lateral::Nav => 3,
             Lateral::Lappr => 4,
             Lateral::Lga => 5,
+        }
+    }
+}
+
+// The lateral mode of a law, from 1 to 5.
+impl TryFrom<u32> for Lateral {
+    type Error = NoMode;
+
+    ghost try_from_gives = { λ n r. result_ok r ≡ lateral_of n };
+
+    fn try_from(n: u32) -> Result<Lateral, NoMode> {
+        match n {
+            1 => Ok(Lateral::Roll),
+            2 => Ok(Lateral::Hdg),
+            3 => Ok(Lateral::Nav),
+            4 => Ok(Lateral::Lappr),
+            5 => Ok(Lateral::Lga),
+            _ => Err(NoMode),
         }
     }
 }
@@ -38,6 +61,27 @@ impl From<Vertical> for u32 {
     }
 }
 
+// The vertical mode of a law, from 1 to 8.
+impl TryFrom<u32> for Vertical {
+    type Error = NoMode;
+
+    ghost try_from_gives = { λ n r. result_ok r ≡ vertical_of n };
+
+    fn try_from(n: u32) -> Result<Vertical, NoMode> {
+        match n {
+            1 => Ok(Vertical::Pitch),
+            2 => Ok(Vertical::Vs),
+            3 => Ok(Vertical::Flc),
+            4 => Ok(Vertical::Alt),
+            5 => Ok(Vertical::AltselCapture),
+            6 => Ok(Vertical::AltselTrack),
+            7 => Ok(Vertical::Vappr),
+            8 => Ok(Vertical::Vga),
+            _ => Err(NoMode),
+        }
+    }
+}
+
 // What the armed lateral mode adds to the armed sum: 1 for NAV, 2 for LAPPR.
 impl From<ArmedLateral> for u32 {
     ghost from_gives = { λ a n. n ≡ armed_number a };
@@ -47,6 +91,22 @@ impl From<ArmedLateral> for u32 {
             ArmedLateral::Neither => 0,
             ArmedLateral::Nav => 1,
             ArmedLateral::Lappr => 2,
+        }
+    }
+}
+
+// The armed lateral mode of its part of the armed sum, from 0 to 2.
+impl TryFrom<u32> for ArmedLateral {
+    type Error = NoMode;
+
+    ghost try_from_gives = { λ n r. result_ok r ≡ armed_of n };
+
+    fn try_from(n: u32) -> Result<ArmedLateral, NoMode> {
+        match n {
+            0 => Ok(ArmedLateral::Neither),
+            1 => Ok(ArmedLateral::Nav),
+            2 => Ok(ArmedLateral::Lappr),
+            _ => Err(NoMode),
         }
     }
 }

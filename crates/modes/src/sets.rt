@@ -101,8 +101,8 @@ pub fn selects_lappr(s: ModeSet) -> bool
     }
 }
 
-// Stays: each of the next four goes by its law in a pattern, and a pattern takes no parameter, so that
-// one function for all of them is not to be had.
+// Stays: document 01 wants laws decided by a match on a number or mode held in a local, and a pattern takes no
+// parameter, so that the next four are not one function.
 pub fn engages_hdg(s: ModeSet) -> bool
     ensures { result ≡ engaged_in HDG s }
 {

@@ -7,13 +7,13 @@ ghost use Rattle.std.specs.Float.Ieee.{of_bits};
 ghost use Rattle.std.specs.Float.{binary64};
 
 // The float of a bit pattern. Every NaN's pattern gives a NaN: the language defines `from_bits`
-// only off those, so they are made by a division.
+// only off those.
 #[tactic(auto, using(crate::proofs::Patterns::pattern_above, crate::proofs::Patterns::pattern_not_above))]
 pub fn from_pattern(bits: u64) -> f64
     ensures { result ≡ of_bits binary64 bits }
 {
     if 0x7ff0_0000_0000_0000 < bits % 0x8000_0000_0000_0000 {
-        return 0.0 / 0.0;
+        return f64::NAN;
     }
     f64::from_bits(bits)
 }

@@ -1,13 +1,14 @@
 -- Decimals: the digits before the point and behind it, read one after the other, are those of one number. Assumes nothing.
-use Rattle.std.proofs.Common.{◌≡◌, ℕ, suc, ◌+◌, ◌-◌, ◌*◌, ◌^◌, ◌<◌, ◌≤◌, Bool, true, false, cond, ◌&&◌, ltb, leb, List, [], ◌∷◌, ◌++◌, length, take, drop, sym, refl, ap, ◌∙◌, append-nil, add_assoc, mul_assoc, add-mul, lt_of_not-le, zero-add, zero-mul, le-mul_of_pos_right, add-one, arith, length-append, drop_of_length-le, take_all, pow-add, le-ltb, lt-ltb, le-leb, leb-false, leb-true, Option, Some, None}
+use Rattle.std.proofs.Common.{◌≡◌, ℕ, suc, ◌+◌, ◌-◌, ◌*◌, ◌^◌, ◌<◌, ◌≤◌, Bool, true, false, cond, ◌&&◌, eqb, ltb, leb, position, unwrap_or, List, [], ◌∷◌, ◌++◌, length, take, drop, sym, refl, ap, ◌∙◌, append-nil, lt_of_not-le, le-mul_of_pos_right, add-one, arith, length-append, drop_of_length-le, take_all, pow-add, le-ltb, lt-ltb, le-leb, leb-false, leb-true, Option, Some, None}
+use mathlib.Core.Bool.{and-false}
 use native.Mathlib.Decide.{dec_le}
 use borrow.Author.Tests.{lt-leb}
 use lib.Dec.{leb-suc-suc}
 use lib.Ieee.{Float, binary64, neg, round}
 use Rattle.words.specs.Words.{place_of, up_to}
-use Rattle.words.proofs.Runs.{to_the_end}
+use Rattle.words.proofs.Runs.{first_or_all, to_the_end}
 use Rattle.std.specs.Option.{option_map}
-use Rattle.numerals.specs.Digits.{digit_of, all_digits, is_numeral, numeral_value}
+use Rattle.numerals.specs.Digits.{all_digits, is_numeral, numeral_value}
 use Rattle.numerals.specs.Values.{before, behind, is_decimal, decimal_as}
 use Rattle.numerals.specs.Private.{whole_decimal, fraction_of, pointed_of}
 use Rattle.numerals.proofs.Reading.{then_picked, map_picked, read_is}
@@ -18,18 +19,8 @@ use Rattle.numerals.proofs.Division.{power_above, neg_round}
 
 joined : (base : ℕ) (w v : List ℕ) → numeral_value base (w ++ v) ≡ numeral_value base w * base ^ length v + numeral_value base v
 unfolding numeral_value
-joined base [] v = sym (ap (λ (k : ℕ). k + numeral_value base v) (zero-mul (base ^ length v)) ∙ zero-add (numeral_value base v))
-joined base (b ∷ w) v = go (digit_of b) (numeral_value base w) (numeral_value base v) (length-append w v) (joined base w v)
-  where
-    go : (d x y : ℕ) → length (w ++ v) ≡ length w + length v → numeral_value base (w ++ v) ≡ x * base ^ length v + y →
-        d * base ^ length (w ++ v) + numeral_value base (w ++ v) ≡ (d * base ^ length w + x) * base ^ length v + y
-    go d x y e f =
-        ap (λ (k : ℕ). d * base ^ k + numeral_value base (w ++ v)) e
-        ∙ ap (λ (k : ℕ). d * base ^ (length w + length v) + k) f
-        ∙ ap (λ (k : ℕ). d * k + (x * base ^ length v + y)) (pow-add base (length w) (length v))
-        ∙ ap (λ (k : ℕ). k + (x * base ^ length v + y)) (sym (mul_assoc d (base ^ length w) (base ^ length v)))
-        ∙ sym (add_assoc (d * base ^ length w * base ^ length v) (x * base ^ length v) y)
-        ∙ ap (λ (k : ℕ). k + y) (sym (add-mul (d * base ^ length w) x (base ^ length v)))
+joined base [] v = omega arith
+joined base (b ∷ w) v = rw (joined base w v, length-append w v, pow-add base (length w) (length v)) (omega arith)
 
 -- ---- what is read
 
@@ -45,11 +36,6 @@ float x k = Some (round binary64 false x (10 ^ k))
 abbrev behind_point : List ℕ → ℕ → Bool
 behind_point w x = is_numeral 10 w && (leb (length w) 15 && leb x top)
 
-never : (t u : Bool) (x : Option Float) → None ≡ cond (t && (u && false)) x None
-never true true x = refl
-never true false x = refl
-never false u x = refl
-
 fraction_is : (n : ℕ) (w : List ℕ) → n ≤ top →
     fraction_of n w ≡ cond (behind_point w (n * 10 ^ length w + numeral_value 10 w)) (float (n * 10 ^ length w + numeral_value 10 w) (length w)) None
 unfolding fraction_of is_numeral
@@ -57,9 +43,9 @@ fraction_is n [] h = refl
 fraction_is n (b ∷ w) h =
     let k = suc (length w) in
     let x = n * 10 ^ k + numeral_value 10 (b ∷ w) in
-    rw (le-ltb k 1 (omega arith)) (elim (dec_le k 15) [
-      | yes l ↦ rw (le-ltb 15 k l, le-leb k 15 l, read_is 10 top n (b ∷ w) (omega arith) h) (map_picked (all_digits 10 (b ∷ w) && leb x top) x (λ y. round binary64 false y (10 ^ k)))
-      | no l ↦ rw (lt-ltb 15 k (lt_of_not-le l), lt-leb k 15 (lt_of_not-le l)) (never true (all_digits 10 (b ∷ w)) _)
+    rw (le-leb 1 k (omega arith)) (elim (dec_le k 15) [
+      | yes l ↦ rw (le-leb k 15 l, read_is 10 top n (b ∷ w) (omega arith) h) (map_picked (all_digits 10 (b ∷ w) && leb x top) x (λ y. round binary64 false y (10 ^ k)))
+      | no l ↦ rw (lt-leb k 15 (lt_of_not-le l), and-false (all_digits 10 (b ∷ w)))
     ])
 
 -- too large a number before the point makes too large a number of all digits
@@ -80,26 +66,29 @@ pointed_is w v =
     go true false e =
         let l : n ≤ n * 10 ^ length v = le-mul_of_pos_right n (power_above (length v)) in
         let m = leb-false n top e in
-        rw (lt-leb all top (omega arith)) (never (is_numeral 10 v) (leb (length v) 15) _)
+        rw (lt-leb all top (omega arith), and-false (leb (length v) 15), and-false (is_numeral 10 v))
 
 -- ---- the whole decimal
 
 limit : (x : ℕ) → leb x top ≡ ltb x (10 ^ 15)
 limit x = sym (leb-suc-suc x top)
 
-module _ (w : List ℕ) (p : ℕ) (e : p ≡ place_of 46 w) where
-  pub no_point_is : length w ≤ p → whole_decimal w ≡ decimal_as false w
-  unfolding decimal_as up_to
-  no_point_is h =
-      let l : length w ≤ suc p = omega arith in
-      rw (number_is top w, map_picked (is_numeral 10 w && leb (numeral_value 10 w) top) (numeral_value 10 w) (λ x. round binary64 false x (10 ^ 0)))
-      (rw (← e, take_all p w h, drop_of_length-le w {i = suc p} l, append-nil w, le-ltb p (length w) h, limit (numeral_value 10 w)))
+-- where `position` finds no point, and where it finds one at p
+pub no_point_is : (w : List ℕ) → None ≡ position (λ b. eqb b 46) w → whole_decimal w ≡ decimal_as false w
+unfolding decimal_as up_to
+no_point_is w h =
+    let n = length w in
+    let e : n ≡ place_of 46 w = ap (λ (o : Option ℕ). unwrap_or o n) h ∙ first_or_all (λ b. eqb b 46) w in
+    rw (number_is top w, map_picked (is_numeral 10 w && leb (numeral_value 10 w) top) (numeral_value 10 w) (λ x. round binary64 false x (10 ^ 0)))
+    (rw (← e, take_all n w (omega arith), drop_of_length-le w {i = suc n} (omega arith), append-nil w, le-ltb n n (omega arith), limit (numeral_value 10 w)))
 
-  pub point_is : p < length w → pointed_of (take p w) (take (length w - (p + 1)) (drop (p + 1) w)) ≡ decimal_as false w
-  unfolding decimal_as up_to
-  point_is h =
-      rw (to_the_end (p + 1) w, add-one p, pointed_is (take p w) (drop (suc p) w), limit (numeral_value 10 (take p w ++ drop (suc p) w)))
-      (rw (← e, lt-ltb p (length w) h))
+pub point_is : (w : List ℕ) (p : ℕ) → Some p ≡ position (λ b. eqb b 46) w → p < length w →
+    pointed_of (take p w) (take (length w - (p + 1)) (drop (p + 1) w)) ≡ decimal_as false w
+unfolding decimal_as up_to
+point_is w p h l =
+    let e : p ≡ place_of 46 w = ap (λ (o : Option ℕ). unwrap_or o (length w)) h ∙ first_or_all (λ b. eqb b 46) w in
+    rw (to_the_end (p + 1) w, add-one p, pointed_is (take p w) (drop (suc p) w), limit (numeral_value 10 (take p w ++ drop (suc p) w)))
+    (rw (← e, lt-ltb p (length w) l))
 
 -- ---- the sign
 

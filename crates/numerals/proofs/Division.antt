@@ -1,15 +1,14 @@
 -- N / 10 ^ k by one division of two exact floats is the float nearest to the fraction. Assumes nothing.
 use Rattle.std.proofs.Common.{◌≡◌, ℕ, zero, suc, ◌+◌, ◌*◌, ◌^◌, ◌<◌, ◌≤◌, Bool, true, false, cond, ltb, pos, sym, refl, ap, ◌∙◌, mul_assoc, mul_comm, mul-pos, zero-mul, mul-one, mul_left_comm, arith, ne_eqb}
-use native.Mathlib.Nat.{pow-le-pow_right}
+use native.Mathlib.Nat.{pow-le-pow_right, one-le-pow}
 use lib.Ieee.{Float, nan, inf, fin, Format, binary64, prec, emax, low, up, down, odd, units, round, neg, div, of_int}
 use lib.Ieee.Fits.{up_pos, down_pos, round_is}
 use lib.Ieee.Exact.{HasValue}
 use lib.Ieee.Back.{round_whole}
 use lib.Ieee.Scale.{round_same}
-use Rattle.numerals.proofs.Reading.{pow_above}
 
 pub power_above : (k : ℕ) → 0 < 10 ^ k
-power_above k = pow_above 10 k (omega arith)
+power_above k = one-le-pow k 10 (omega arith)
 
 pub power_below : (k : ℕ) → k ≤ 15 → 10 ^ k ≤ 10 ^ 15
 power_below k h = pow-le-pow_right (omega arith) h
@@ -40,12 +39,8 @@ quotient (fin s m e) (inf t) a b B h k = absurd k
 quotient (fin s m e) (fin t n d) a b B h k =
     let z : n ≡ 0 → ⊥ = some n (up d) b (down d) B (down_pos d) k.1 in
     rw (ne_eqb n 0 z, h.0, k.0)
-    (round_same binary64 false (m * up e * down d) (n * up d * down e) a b (mul-pos (mul-pos (above n z) (up_pos d)) (down_pos e)) B
+    (round_same binary64 false (m * up e * down d) (n * up d * down e) a b (mul-pos (mul-pos (let l : 0 < n = omega arith in l) (up_pos d)) (down_pos e)) B
     (cross (m * up e) (n * up d) a b (down e) (down d) h.1 k.1))
-  where
-    above : (n : ℕ) → (n ≡ 0 → ⊥) → 0 < n
-    above zero z = absurd (z refl)
-    above (suc n) z = omega arith
 
 -- n / p of two numbers that are exact floats
 pub division : (n p : ℕ) → n ≤ 2 ^ 53 → 0 < p → p ≤ 2 ^ 53 → div binary64 (of_int binary64 (pos n)) (of_int binary64 (pos p)) ≡ round binary64 false n p

@@ -1,5 +1,6 @@
 -- The laws of specs/Laws.antt: a decimal is below 10 ^ 15, so that its float does not overflow, and `round` gives the nearest float. Assumes nothing.
 use Rattle.std.proofs.Common.{◌≡◌, ℕ, ◌+◌, ◌-◌, ◌*◌, ◌/◌, ◌%◌, ◌^◌, ◌<◌, ◌≤◌, Bool, true, false, cond, not, ◌&&◌, ◌||◌, ltb, leb, List, ◌++◌, length, refl, subst, le_trans, lt_of_le_of_lt, mul-le-mul, div-le_self, arith, pow_mono, pow-add, shl_lt, ltb-true, Some, None}
+use mathlib.Core.Bool.{and-eq-true_iff}
 use Prim.Native.Nat.{compare}
 use native.Mathlib.Nat.{div-div-eq-div-mul}
 use lib.Pow.{pow-lt}
@@ -14,7 +15,6 @@ use Rattle.numerals.specs.Values.{has_point, before, behind, is_decimal, decimal
 use Rattle.numerals.proofs.Division.{power_above, neg_round}
 use Rattle.numerals.specs.Laws.{IsNearestFloat, ValueLaws}
 use Rattle.numerals.proofs.Nearest.{none_nearer}
-use Rattle.numerals.proofs.Reading.{both}
 
 -- ---- below 10 ^ 15 nothing overflows
 
@@ -71,7 +71,7 @@ module _ (s : Bool) (w : List ℕ) where
       let c = ltb n (10 ^ 15) in
       let b = leb (length (behind w)) 15 in
       let a = not (has_point w) || is_numeral 10 (behind w) in
-      ltb-true n (10 ^ 15) (both b c (both a (b && c) (both (is_numeral 10 (before w)) (a && (b && c)) h).1).1).1
+      ltb-true n (10 ^ 15) ((and-eq-true_iff b c).0 ((and-eq-true_iff a (b && c)).0 ((and-eq-true_iff (is_numeral 10 (before w)) (a && (b && c))).0 h).1).1).1
 
   decimal_nearest : (x : Float) → decimal_as s w ≡ Some x → IsNearestFloat x n p
   unfolding decimal_as

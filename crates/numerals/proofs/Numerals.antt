@@ -1,12 +1,12 @@
 -- A numeral is read as the number that it stands for, where that is at most `most`. Assumes nothing.
-use Rattle.std.proofs.Common.{◌≡◌, ℕ, ◌+◌, ◌*◌, ◌^◌, ◌≤◌, None, Some, List, [], ◌∷◌, length, refl, ap, ◌∙◌, zero-add, zero-mul, arith}
+use Rattle.std.proofs.Common.{◌≡◌, ℕ, ◌+◌, ◌*◌, ◌^◌, ◌≤◌, None, Some, List, [], ◌∷◌, length, refl, arith}
 use Rattle.numerals.specs.Digits.{numeral_value, is_numeral}
 use Rattle.numerals.specs.Private.{at_most, read_on}
 use Rattle.numerals.specs.Numbers.{number_in}
 use Rattle.numerals.proofs.Reading.{read_is, at_most_tells}
 
 pub from_zero : (base n : ℕ) (w : List ℕ) → 0 * base ^ length w + n ≡ n
-from_zero base n w = ap (λ (k : ℕ). k + n) (zero-mul (base ^ length w)) ∙ zero-add n
+from_zero base n w = omega arith
 
 pub number_is : (most : ℕ) (w : List ℕ) → number_in most w ≡ at_most most (is_numeral 10 w) (numeral_value 10 w)
 unfolding number_in

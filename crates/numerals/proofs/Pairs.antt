@@ -1,19 +1,14 @@
--- Pairs of hexadecimal digits: which words are pairs, how many bytes they make, and where the digits of each stand. Assumes nothing.
-use Rattle.std.proofs.Common.{◌≡◌, ℕ, zero, suc, ◌+◌, ◌*◌, ◌/◌, ◌%◌, ◌<◌, ◌≤◌, Bool, true, false, ◌&&◌, List, [], ◌∷◌, ◌++◌, length, get_or, take, drop, set, sym, refl, add-one, arith, drop_of_length-le, length-take-le, take_all, drop-cons, take-suc, eq-eqb, ne_eqb, min}
-use native.Mathlib.Decide.{dec_le}
-use lib.Seq.{set_at, append_snoc}
-use Rattle.numerals.specs.Digits.{all_digits, is_numeral}
+-- Pairs of hexadecimal digits: which words are pairs, how many bytes they make, and how these are laid over a target. Assumes nothing.
+use Rattle.std.proofs.Common.{◌≡◌, ℕ, suc, ◌+◌, ◌/◌, ◌%◌, ◌<◌, ◌≤◌, false, List, [], ◌∷◌, ◌++◌, length, get_or, take, drop, set, refl, add-one, arith, take_all, drop-cons, eq-eqb, ne_eqb}
+use mathlib.Core.Bool.{and-false, and-true}
+use Rattle.std.proofs.lemmas.List.{take-append-drop, drop-set-lt, take_more_set, append_assoc}
+use Rattle.std.specs.Option.{unwrap_or}
+use Rattle.std.proofs.lemmas.Bool.Decides.{nat_tests}
+use Rattle.numerals.specs.Private.{digit_in}
+use Rattle.numerals.specs.Digits.{digit_of, all_digits, is_numeral}
 use Rattle.numerals.specs.Pairs.{are_pairs, pair_byte, pair_bytes, laid_over}
 
 -- ---- which words are pairs
-
-never : (t : Bool) → (t && false) ≡ false
-never true = refl
-never false = refl
-
-always : (t : Bool) → (t && true) ≡ t
-always true = refl
-always false = refl
 
 pub empty_pairs : (w : List ℕ) → length w ≡ 0 → are_pairs w ≡ false
 unfolding are_pairs is_numeral
@@ -22,14 +17,21 @@ empty_pairs (b ∷ w) h = absurd (omega arith)
 
 pub odd_pairs : (w : List ℕ) → length w % 2 ≡ 1 → are_pairs w ≡ false
 unfolding are_pairs
-odd_pairs w h = rw (ne_eqb (length w % 2) 0 (λ e. omega arith)) (never (is_numeral 16 w))
+odd_pairs w h = rw (ne_eqb (length w % 2) 0 (λ e. omega arith)) (and-false (is_numeral 16 w))
 
 pub even_pairs : (w : List ℕ) → (length w ≡ 0 → ⊥) → (length w % 2 ≡ 1 → ⊥) → are_pairs w ≡ all_digits 16 w
 unfolding are_pairs is_numeral
 even_pairs [] h k = absurd (h refl)
-even_pairs (b ∷ w) h k = rw (eq-eqb (length (b ∷ w) % 2) 0 (omega arith)) (always (all_digits 16 (b ∷ w)))
+even_pairs (b ∷ w) h k = rw (eq-eqb (length (b ∷ w) % 2) 0 (omega arith)) (and-true (all_digits 16 (b ∷ w)))
 
 -- ---- their bytes
+
+-- a byte that is no digit counts 16
+pub or_sixteen : (b : ℕ) → unwrap_or (digit_in 16 b) 16 ≡ digit_of b
+or_sixteen b = grind (arith, nat_tests)
+
+pub within_sixteen : (b : ℕ) → unwrap_or (digit_in 16 b) 16 ≤ 16
+within_sixteen b = grind (arith, nat_tests)
 
 pub how_many : (w : List ℕ) → length (pair_bytes w) ≡ length w / 2
 unfolding pair_bytes
@@ -37,38 +39,26 @@ how_many [] = refl
 how_many (high ∷ []) = refl
 how_many (high ∷ low ∷ w) = omega (arith, how_many w)
 
-pub pair_is : (w : List ℕ) (i : ℕ) → i < length w / 2 → get_or (pair_bytes w) i 0 ≡ pair_byte (get_or w (i * 2) 0) (get_or w (i * 2 + 1) 0)
-unfolding pair_bytes
-pair_is [] i h = absurd (omega arith)
-pair_is (high ∷ []) i h = absurd (omega arith)
-pair_is (high ∷ low ∷ w) zero h = refl
-pair_is (high ∷ low ∷ w) (suc i) h =
-    let first : suc i * 2 ≡ suc (suc (i * 2)) = omega arith in
-    let second : suc i * 2 + 1 ≡ suc (suc (i * 2 + 1)) = omega arith in
-    rw (second, first) (pair_is w i (omega arith))
-
 -- ---- bytes over a target, one after the other
 
--- the first n bytes stand there
-abbrev pub laid : ℕ → List ℕ → List ℕ → List ℕ
-laid n bytes target = take n bytes ++ drop n target
+-- the first i places are written; the bytes of the word w are laid over the others
+abbrev pub laid_from : ℕ → List ℕ → List ℕ → List ℕ
+laid_from i w target = take i target ++ laid_over (pair_bytes w) (drop i target)
 
-module _ (bytes target : List ℕ) (n : ℕ) where
-  pub one_more : n < length bytes → n < length target → set (laid n bytes target) n (get_or bytes n 0) ≡ laid (n + 1) bytes target
-  one_more h k =
-      let size : length (take n bytes) ≡ n = length-take-le n bytes (omega arith) in
-      rw (add-one, drop-cons target n 0 k, set_at (take n bytes) (get_or target n 0) (drop (suc n) target) (get_or bytes n 0) n size)
-      (rw (take-suc bytes n 0 h) (sym (append_snoc (take n bytes) (get_or bytes n 0) (drop (suc n) target))))
+-- the byte of the first pair p is written, and the other pairs v are left
+pub one_more : (w p v target : List ℕ) (i b : ℕ) → w ≡ p ++ v → length p ≡ 2 → i < length target → b ≡ pair_byte (get_or p 0 0) (get_or p 1 0) →
+    laid_from (i + 1) v (set target i b) ≡ laid_from i w target
+unfolding pair_bytes
+one_more w [] v target i b f g h e = absurd (omega arith)
+one_more w (high ∷ []) v target i b f g h e = absurd (omega arith)
+one_more w (high ∷ low ∷ []) v target i b f g h e =
+    rw (take_more_set target i b h, drop-set-lt (i + 1) target i b (omega arith), drop-cons target i 0 h, add-one, e, f)
+    (append_assoc (take i target) (pair_byte high low ∷ []) (laid_over (pair_bytes v) (drop (suc i) target)))
+one_more w (high ∷ low ∷ more ∷ p) v target i b f g h e = absurd (omega arith)
 
-  all_bytes : n ≡ length bytes → n ≤ length target → laid n bytes target ≡ laid_over bytes target
-  all_bytes e h = rw (take_all n bytes (omega arith), take_all (length target) bytes (omega arith), e)
-
-  all_places : n ≡ length target → n ≤ length bytes → laid n bytes target ≡ laid_over bytes target
-  all_places e h = rw (drop_of_length-le target {i = n} (omega arith), drop_of_length-le target {i = length bytes} (omega arith), e)
-
-  -- all of them, or as many as the target has
-  pub all_laid : n ≡ min (length target) (length bytes) → laid n bytes target ≡ laid_over bytes target
-  all_laid e = elim (dec_le (length bytes) (length target)) [
-    | yes h ↦ all_bytes (omega arith) (omega arith)
-    | no h ↦ all_places (omega arith) (omega arith)
-  ]
+-- no pair is left
+pub none_more : (w target : List ℕ) (i : ℕ) → length w < 2 → laid_from i w target ≡ target
+unfolding pair_bytes
+none_more [] target i h = rw (take_all {A = ℕ} (length (drop i target)) [] (omega arith)) (take-append-drop i target)
+none_more (high ∷ []) target i h = rw (take_all {A = ℕ} (length (drop i target)) [] (omega arith)) (take-append-drop i target)
+none_more (high ∷ low ∷ w) target i h = absurd (omega arith)

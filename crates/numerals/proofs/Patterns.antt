@@ -1,29 +1,16 @@
--- The names of floats and their bit patterns. Assumes nothing.
-use Rattle.std.proofs.Common.{◌≡◌, ℕ, ◌^◌, ◌<◌, Bool, true, false, cond, ◌&&◌, ltb, List, [], ◌∷◌, length, take, drop, refl, arith, ltb-true, eq-eqb, ne_eqb, le-leb, Option, Some, None}
+-- The bit patterns of floats. Assumes nothing.
+use Rattle.std.proofs.Common.{◌≡◌, ℕ, ◌^◌, ◌<◌, Bool, true, false, cond, ltb, List, [], ◌∷◌, length, take, drop, refl, arith, ltb-true, eq-eqb, ne_eqb, le-leb, Some, None}
+use mathlib.Core.Bool.{and-false, and-eq-true_iff}
 use native.Mathlib.Nat.{pow-succ', pow-zero}
 use lib.Arith.{digits_lt}
-use lib.Ieee.{Float, nan, inf, binary64, div, neg, of_bits}
+use lib.Ieee.{binary64, of_bits}
 use Rattle.std.specs.Option.{option_map}
 use Rattle.numerals.specs.Digits.{digit_of, all_digits, numeral_value}
 use Rattle.words.specs.Words.{same_bytes}
 use Rattle.numerals.specs.Values.{pattern_of}
 use Rattle.numerals.specs.Private.{at_most, read_on}
-use Rattle.numerals.proofs.Reading.{map_picked, read_is, both}
+use Rattle.numerals.proofs.Reading.{map_picked, read_is}
 use Rattle.numerals.proofs.Numerals.{from_zero}
-
--- ---- what the code's quotients are, with 0.0 and 1.0 as it has them
-
-pub no_number : div binary64 (of_bits binary64 0) (of_bits binary64 0) ≡ nan
-unfolding div of_bits
-no_number = refl
-
-pub infinity : div binary64 (of_bits binary64 4607182418800017408) (of_bits binary64 0) ≡ inf false
-unfolding div of_bits
-infinity = refl
-
-pub minus_infinity : div binary64 (neg (of_bits binary64 4607182418800017408)) (of_bits binary64 0) ≡ inf true
-unfolding div neg of_bits
-minus_infinity = refl
 
 -- ---- digits of a base stand for a number below its power
 
@@ -31,7 +18,7 @@ number_below : (base : ℕ) (w : List ℕ) → all_digits base w ≡ true → nu
 unfolding all_digits numeral_value
 number_below base [] h = let z = pow-zero base in omega arith
 number_below base (b ∷ w) h =
-    let t = both (ltb (digit_of b) base) (all_digits base w) h in
+    let t = (and-eq-true_iff (ltb (digit_of b) base) (all_digits base w)).0 h in
     rw (pow-succ' base (length w)) (digits_lt (ltb-true (digit_of b) base t.0) (number_below base w t.1))
 
 -- 16 hexadecimal digits are never too many for 64 bits
@@ -46,17 +33,13 @@ hex v h = rw (read_is 16 18446744073709551615 0 v (omega arith) (omega arith), f
 
 -- ---- the pattern
 
-never : (t : Bool) (x : Option Float) → None ≡ cond (t && false) x None
-never true x = refl
-never false x = refl
-
 pub no_prefix : (w : List ℕ) → same_bytes (take 2 w) (48 ∷ 120 ∷ []) ≡ false → None ≡ pattern_of w
 unfolding pattern_of
 no_prefix w h = rw h
 
 pub other_length : (w : List ℕ) → (length (drop 2 w) ≡ 16 → ⊥) → None ≡ pattern_of w
 unfolding pattern_of
-other_length w h = rw (ne_eqb (length (drop 2 w)) 16 h) (never (same_bytes (take 2 w) (48 ∷ 120 ∷ [])) _)
+other_length w h = rw (ne_eqb (length (drop 2 w)) 16 h, and-false (same_bytes (take 2 w) (48 ∷ 120 ∷ [])))
 
 pub pattern_is : (w : List ℕ) → same_bytes (take 2 w) (48 ∷ 120 ∷ []) ≡ true → length (drop 2 w) ≡ 16 →
     option_map (of_bits binary64) (read_on 16 18446744073709551615 0 (drop 2 w)) ≡ pattern_of w

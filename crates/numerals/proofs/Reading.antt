@@ -1,7 +1,7 @@
 -- Digits read one after the other make the number that they stand for. Assumes nothing.
-use Rattle.std.proofs.Common.{◌≡◌, ℕ, suc, ◌+◌, ◌*◌, ◌^◌, ◌<◌, ◌≤◌, Bool, true, false, cond, ◌&&◌, ltb, leb, List, [], ◌∷◌, length, sym, refl, ap, ◌∙◌, add-zero, add_assoc, mul_assoc, mul_comm, add-mul, pow-suc, mul-one, le-mul_of_pos_right, arith, le-leb, leb-false, leb-true, Option, Some, None}
+use Rattle.std.proofs.Common.{◌≡◌, ℕ, suc, ◌+◌, ◌*◌, ◌^◌, ◌<◌, ◌≤◌, Bool, true, false, cond, ◌&&◌, ltb, leb, List, [], ◌∷◌, length, refl, add-zero, pow-suc, mul-one, le-mul_of_pos_right, arith, le-leb, leb-false, leb-true, Option, Some, None}
 use mathlib.Core.Bool.{and-eq-true_iff}
-use native.Mathlib.Nat.{pow-zero, pow-le-pow_right}
+use native.Mathlib.Nat.{pow-zero, one-le-pow}
 use borrow.Author.Tests.{lt-leb}
 use Rattle.std.specs.Option.{option_and_then, option_map}
 use Rattle.numerals.specs.Digits.{digit_of, all_digits, numeral_value}
@@ -18,16 +18,9 @@ pub map_picked : {X : Type 0} (t : Bool) (n : ℕ) (f : ℕ → X) → option_ma
 map_picked true n f = refl
 map_picked false n f = refl
 
-pub pow_above : (base n : ℕ) → 0 < base → 0 < base ^ n
-pow_above base n B = let l : base ^ 0 ≤ base ^ n = pow-le-pow_right B (omega arith) in let z = pow-zero base in omega arith
-
 -- v with a digit d and then n digits behind it, of the number r
 regroup : (base v d n r : ℕ) → v * base ^ suc n + (d * base ^ n + r) ≡ (v * base + d) * base ^ n + r
-regroup base v d n r =
-    ap (λ (p : ℕ). v * p + (d * base ^ n + r)) (pow-suc base n ∙ mul_comm (base ^ n) base)
-    ∙ ap (λ (p : ℕ). p + (d * base ^ n + r)) (sym (mul_assoc v base (base ^ n)))
-    ∙ sym (add_assoc (v * base * base ^ n) (d * base ^ n) r)
-    ∙ ap (λ (p : ℕ). p + r) (sym (add-mul (v * base) d (base ^ n)))
+regroup base v d n r = rw (pow-suc base n) (omega arith)
 
 over : (most : ℕ) (t : Bool) (x : ℕ) → most < x → None ≡ at_most most t x
 over most false x h = refl
@@ -49,20 +42,17 @@ read_is base most v (b ∷ w) B h =
     go n false u e f = refl
     go n true true e f = f (leb-true n most e)
     go n true false e f =
-        let l : n ≤ n * base ^ length w = le-mul_of_pos_right n (pow_above base (length w) B) in
+        let l : n ≤ n * base ^ length w = le-mul_of_pos_right n (one-le-pow (length w) base B) in
         let m = leb-false n most e in
         over most (all_digits base w) (all n) (omega arith)
 
 -- ---- what an answer tells
 
-pub both : (t u : Bool) → (t && u) ≡ true → (t ≡ true) × (u ≡ true)
-both t u e = (and-eq-true_iff t u).0 e
-
 pub at_most_tells : (most : ℕ) (t : Bool) (x n : ℕ) → at_most most t x ≡ Some n → n ≤ most
 at_most_tells most t x n e = go (t && leb x most) refl e
   where
     go : (u : Bool) → (t && leb x most) ≡ u → cond u (Some x) None ≡ Some n → n ≤ most
-    go true f e = let l = leb-true x most (both t (leb x most) f).1 in let g : x ≡ n = cc in omega arith
+    go true f e = let l = leb-true x most ((and-eq-true_iff t (leb x most)).0 f).1 in let g : x ≡ n = cc in omega arith
     go false f e = absurd (let z : ◌≡◌ {A = ℕ} 0 1 = cc in omega arith)
 
 pub read_fits : (base most v n : ℕ) (w : List ℕ) → 0 < base → v ≤ most → read_on base most v w ≡ Some n → n ≤ most

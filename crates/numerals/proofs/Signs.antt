@@ -1,5 +1,6 @@
 -- A number with a sign: what is read of it without its sign, in the range of 32 bits. Assumes nothing.
 use Rattle.std.proofs.Common.{◌≡◌, ℕ, zero, suc, Bool, true, false, cond, ◌&&◌, leb, List, refl, ap, ◌∙◌, arith, leb-false, Option, Some, None, ℤ, pos, negsuc, w32}
+use mathlib.Core.Bool.{and-true}
 use Rattle.std.specs.Option.{option_and_then}
 use Rattle.std.specs.Prelude.{Result, Ok, Err, OkIff, FitsSigned}
 use Rattle.std.specs.Result.{result_ok}
@@ -33,11 +34,7 @@ signed_is s w = go (is_numeral 10 w) (numeral_value 10 w) (leb (numeral_value 10
 
 fits_in_32 : (z : ℤ) → is_i32 z ≡ false → FitsSigned w32 z → ⊥
 fits_in_32 (pos n) h f = let l = leb-false n 2147483647 h in let m = f.sfits in omega arith
-fits_in_32 (negsuc n) h f = let l = leb-false n 2147483647 (alone (leb n 2147483647) h) in let m = f.sfits in omega arith
-  where
-    alone : (t : Bool) → (t && true) ≡ false → t ≡ false
-    alone true h = h
-    alone false h = h
+fits_in_32 (negsuc n) h f = let l = leb-false n 2147483647 (rw (and-true (leb n 2147483647)) at h) in let m = f.sfits in omega arith
 
 -- what a conversion to 32 bits gives
 in_32_is : {E : Type 0} (r : Result ℤ E) (z : ℤ) → OkIff r (FitsSigned w32 z) z → result_ok r ≡ in_32 z

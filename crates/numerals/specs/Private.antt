@@ -5,6 +5,16 @@ use Rattle.std.specs.Float.{binary64}
 use Rattle.std.specs.Float.Ieee.{round}
 use Rattle.numerals.specs.Digits.{digit_of}
 use Rattle.numerals.specs.Numbers.{number_in}
+use Rattle.numerals.specs.declared.Base.{Base}
+
+-- a base's number
+abbrev pub base_number : Base → ℕ
+base_number Base.Ten = 10
+base_number Base.Sixteen = 16
+
+-- the digit of a base that a byte is
+abbrev pub digit_in : ℕ → ℕ → Option ℕ
+digit_in base b = cond (nat_lt (digit_of b) base) (Some (digit_of b)) None
 
 -- the number x, where t holds and it is at most `most`
 abbrev pub at_most : ℕ → Bool → ℕ → Option ℕ
@@ -29,7 +39,7 @@ whole_decimal w = quotient_of (number_in 999999999999999 w) 0
 
 -- the number n with the digits w behind its point, from 1 to 15 of them
 unfoldable pub fraction_of : ℕ → List ℕ → Option Float
-fraction_of n w = cond (nat_lt (length w) 1) None (cond (nat_lt 15 (length w)) None (quotient_of (read_on 10 999999999999999 n w) (length w)))
+fraction_of n w = cond (nat_le 1 (length w) && nat_le (length w) 15) (quotient_of (read_on 10 999999999999999 n w) (length w)) None
 
 -- a decimal with w before its point and v behind it
 abbrev pub pointed_of : List ℕ → List ℕ → Option Float

@@ -3,50 +3,57 @@
 // is read as what, specs/Examples gives words, and specs/Private has what only the private functions promise.
 #![tactic(auto)]
 
-ghost use Rattle.std.specs.Prelude.{◌≡◌, ◌/◌, ◌^◌, ◌<◌, ◌≤◌, false, length, slice_index};
+ghost use Rattle.std.specs.Prelude.{◌≡◌, ◌^◌, ◌≤◌, false};
 ghost use Rattle.std.specs.Float.{binary64};
 ghost use Rattle.std.specs.Float.Ieee.{round};
 ghost use Rattle.rounding.specs.Whole.{signed_of};
-ghost use Rattle.numerals.specs.Digits.{digit_of, all_digits};
+ghost use Rattle.numerals.specs.Digits.{all_digits};
 ghost use Rattle.numerals.specs.Numbers.{number_in, clicks_in};
 ghost use Rattle.numerals.specs.Pairs.{are_pairs, pair_byte, pair_bytes, laid_over};
 ghost use Rattle.numerals.specs.Integers.{signed_in};
 ghost use Rattle.numerals.specs.Words.{has_minus, unsigned};
 ghost use Rattle.numerals.specs.Values.{name_of, pattern_of, decimal_as, value_in};
-ghost use Rattle.numerals.specs.Private.{step, read_on, whole_decimal, fraction_of, pointed_of};
+ghost use Rattle.numerals.specs.Private.{base_number, digit_in, step, read_on, whole_decimal, fraction_of, pointed_of};
 
 // The largest number of 15 digits.
 const LARGEST: u64 = 999_999_999_999_999;
 
-// What a byte counts as a digit, of either case; 16 where it is none. '0' is 48, 'A' 65 and 'a' 97.
-fn digit(b: u8) -> u64
-    ensures { result ≡ digit_of b }
-{
-    match b {
-        b'0'..=b'9' => (b - 48) as u64,
-        b'A'..=b'F' => (b - 55) as u64,
-        b'a'..=b'f' => (b - 87) as u64,
-        _ => 16,
+// The bases that specs/Digits knows the digits of.
+#[derive(Clone, Copy)]
+enum Base {
+    Ten = 10,
+    Sixteen = 16,
+}
+
+impl From<Base> for u32 {
+    ghost from_gives = { λ base number. number ≡ base_number base };
+
+    fn from(base: Base) -> u32 {
+        base as u32
     }
 }
 
-// The number v with one digit more behind it, of at most `most`.
-fn one_more(base: u64, v: u64, b: u8, most: u64) -> Option<u64>
-    requires { 0 < base }
-    ensures { result ≡ step base most v b }
+// The digit of a base that a byte is, of either case.
+fn digit(b: u8, base: Base) -> Option<u32>
+    ensures { result ≡ digit_in (base_number base) b }
 {
-    let d = digit(b);
-    if base <= d {
-        return None;
-    }
-    let next = v.checked_mul(base)?.checked_add(d)?;
+    char::from(b).to_digit(u32::from(base))
+}
+
+// The number v with one digit more behind it, of at most `most`.
+fn one_more(base: Base, v: u64, b: u8, most: u64) -> Option<u64>
+    ensures { result ≡ step (base_number base) most v b }
+{
+    let d = digit(b, base)?;
+    let next = v
+        .checked_mul(u64::from(u32::from(base)))?
+        .checked_add(u64::from(d))?;
     (next <= most).then_some(next)
 }
 
 // The number `start` with the digits w behind it, of at most `most`.
-fn digits_from(base: u64, start: u64, w: &[u8], most: u64) -> Option<u64>
-    requires { 0 < base }
-    ensures { result ≡ read_on base most start w.now }
+fn digits_from(base: Base, start: u64, w: &[u8], most: u64) -> Option<u64>
+    ensures { result ≡ read_on (base_number base) most start w.now }
 {
     let mut v = start;
     for b in w {
@@ -63,7 +70,7 @@ pub fn wide_number(w: &[u8], most: u64) -> Option<u64>
     if w.is_empty() {
         return None;
     }
-    digits_from(10, 0, w, most)
+    digits_from(Base::Ten, 0, w, most)
 }
 
 // A number of at most `most`, which 32 bits hold.
@@ -79,7 +86,7 @@ pub fn number(w: &[u8], most: u32) -> Option<u32>
 fn all_hexadecimal(w: &[u8]) -> bool
     ensures { result ≡ all_digits 16 w.now }
 {
-    w.iter().all(|b| digit(*b) < 16)
+    w.iter().all(|b| digit(*b, Base::Sixteen).is_some())
 }
 
 // Whether a word is one or more pairs of hexadecimal digits and nothing else.
@@ -94,28 +101,27 @@ pub fn are_pairs(w: &[u8]) -> bool
 }
 
 // The byte of two digits.
+// Stays: a byte that is no digit counts 16, since `put_pairs`, a public function, promises a value for every word.
+#[tactic(auto, using(crate::proofs::Pairs::or_sixteen, crate::proofs::Pairs::within_sixteen))]
 fn pair(high: u8, low: u8) -> u8
     ensures { result ≡ pair_byte high low }
 {
-    ((digit(high) * 16 + digit(low)) % 256) as u8
-}
-
-// The byte of pair i.
-#[tactic(auto, using(crate::proofs::Pairs::pair_is))]
-fn pair_at(w: &[u8], i: usize) -> u8
-    requires { i < length w.now / 2 }
-    ensures { result ≡ slice_index (pair_bytes w.now) i }
-{
-    let at = i * 2;
-    pair(w[at], w[at + 1])
+    let high = digit(high, Base::Sixteen).unwrap_or(16);
+    let low = digit(low, Base::Sixteen).unwrap_or(16);
+    ((high * 16 + low) % 256) as u8
 }
 
 // Writes the bytes of a word of pairs over the first bytes of the target, as many as both have.
+// No `zip`: after a loop over one, a proof does not know what was written through `iter_mut`.
 pub fn put_pairs(w: &[u8], target: &mut [u8])
     ensures { target.new ≡ laid_over (pair_bytes w.now) target.old }
 {
-    for i in 0..target.len().min(w.len() / 2) {
-        target[i] = pair_at(w, i);
+    let mut pairs = w.chunks_exact(2);
+    for t in target.iter_mut() {
+        let Some(p) = pairs.next() else {
+            return;
+        };
+        *t = pair(p[0], p[1]);
     }
 }
 
@@ -123,17 +129,18 @@ pub fn put_pairs(w: &[u8], target: &mut [u8])
 fn has_minus(w: &[u8]) -> bool
     ensures { result ≡ has_minus w.now }
 {
-    !w.is_empty() && w[0] == b'-'
+    w.starts_with(b"-")
 }
 
 // A word without its '-'.
 fn unsigned(w: &[u8]) -> &[u8]
     ensures { result.now ≡ unsigned w.now }
 {
-    if has_minus(w) { &w[1..] } else { w }
+    w.strip_prefix(b"-").unwrap_or(w)
 }
 
 // A number with its sign, at the wider type, where 2147483648 can be negated.
+// Stays: `signed` of the crate rounding says the same of 64 bits, of which it asks that they fit, as no public function may.
 fn with_sign(minus: bool, n: u32) -> i64
     ensures { result ≡ signed_of minus n }
 {
@@ -157,27 +164,22 @@ pub fn clicks(w: &[u8]) -> Option<u8>
     let size = unsigned(w);
     if has_minus(w) {
         let n = number(size, 128)?;
-        return Some(((256 - n % 256) % 256) as u8);
+        return Some((n as u8).wrapping_neg());
     }
     let n = number(size, 127)?;
     Some(n as u8)
 }
 
 // The floats that have a name.
-#[tactic(auto, using(crate::proofs::Patterns::no_number, crate::proofs::Patterns::infinity, crate::proofs::Patterns::minus_infinity))]
 fn name(w: &[u8]) -> Option<f64>
     ensures { result ≡ name_of w.now }
 {
-    if w == b"nan".as_slice() {
-        return Some(0.0 / 0.0);
+    match w {
+        b"nan" => Some(f64::NAN),
+        b"inf" => Some(f64::INFINITY),
+        b"-inf" => Some(f64::NEG_INFINITY),
+        _ => None,
     }
-    if w == b"inf".as_slice() {
-        return Some(1.0 / 0.0);
-    }
-    if w == b"-inf".as_slice() {
-        return Some(-1.0 / 0.0);
-    }
-    None
 }
 
 // A float by its bit pattern: 16 digits of base 16 behind '0x'.
@@ -188,7 +190,7 @@ fn pattern(w: &[u8]) -> Option<f64>
     if digits.len() != 16 {
         return None;
     }
-    let bits = digits_from(16, 0, digits, u64::MAX)?;
+    let bits = digits_from(Base::Sixteen, 0, digits, u64::MAX)?;
     Some(number_forms::from_pattern(bits))
 }
 
@@ -219,13 +221,10 @@ fn fraction(n: u64, w: &[u8]) -> Option<f64>
     ensures { result ≡ fraction_of n w.now }
 {
     let k = w.len();
-    if k < 1 {
+    if !(1..=15).contains(&k) {
         return None;
     }
-    if 15 < k {
-        return None;
-    }
-    let m = digits_from(10, n, w, LARGEST)?;
+    let m = digits_from(Base::Ten, n, w, LARGEST)?;
     Some(quotient(m, k))
 }
 
@@ -239,14 +238,12 @@ fn pointed(w: &[u8], v: &[u8]) -> Option<f64>
 }
 
 // A decimal without a sign.
-#[tactic(auto, using(crate::proofs::Decimals::no_point_is, crate::proofs::Decimals::point_is))]
 fn decimal(w: &[u8]) -> Option<f64>
     ensures { result ≡ decimal_as false w.now }
 {
-    let p = words::place(w, b'.');
-    if w.len() <= p {
+    let Some(p) = w.iter().position(|b| *b == b'.') else {
         return whole(w);
-    }
+    };
     pointed(&w[..p], &w[p + 1..])
 }
 
@@ -263,5 +260,5 @@ fn signed_decimal(w: &[u8]) -> Option<f64>
 pub fn value(w: &[u8]) -> Option<f64>
     ensures { result ≡ value_in w.now }
 {
-    name(w).or(pattern(w).or(signed_decimal(w)))
+    name(w).or_else(|| pattern(w)).or_else(|| signed_decimal(w))
 }

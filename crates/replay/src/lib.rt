@@ -35,36 +35,15 @@ pub struct Ran {
     pub served: Served,
 }
 
-impl From<Answer<()>> for Served {
-    ghost from_gives = { λ answer served. served ≡ record { bench = answer.bench; reply = Some (Reply.Plain answer.outcome) } };
-
-    fn from(answer: Answer<()>) -> Served {
-        Served {
-            bench: answer.bench,
-            reply: Some(Reply::Plain(answer.outcome)),
-        }
-    }
-}
-
-impl From<Answer<u32>> for Served {
-    ghost from_gives = { λ answer served. served ≡ record { bench = answer.bench; reply = Some (Reply.Told answer.outcome) } };
-
-    fn from(answer: Answer<u32>) -> Served {
-        Served {
-            bench: answer.bench,
-            reply: Some(Reply::Told(answer.outcome)),
-        }
-    }
-}
-
-impl From<Answer<Display>> for Served {
-    ghost from_gives = { λ answer served. served ≡ record { bench = answer.bench; reply = Some (Reply.Shows answer.outcome) } };
-
-    fn from(answer: Answer<Display>) -> Served {
-        Served {
-            bench: answer.bench,
-            reply: Some(Reply::Shows(answer.outcome)),
-        }
+// The bench that a call left, and what it answered besides, as a reply of its kind.
+fn answered<T, R: FnOnce(Result<T, Refusal>) -> Reply>(answer: Answer<T>, reply: R) -> Served
+    requires { R.IsAlwaysCallable reply }
+    ensures bench { result.bench ≡ answer.bench }
+    ensures reply { (said : Reply) × R.post reply answer.outcome said × result.reply ≡ Some said }
+{
+    Served {
+        bench: answer.bench,
+        reply: Some(reply(answer.outcome)),
     }
 }
 
@@ -74,12 +53,12 @@ fn serve(b: Bench, call: Call) -> Served
     ensures { as_served result ≡ served_by b call }
 {
     match call {
-        Call::Event(word) => calls::event(b, word).into(),
-        Call::Turn(knob, new) => calls::turn(b, knob, new).into(),
-        Call::Reading(r) => calls::reading(b, r).into(),
-        Call::Send(side) => calls::send(b, side).into(),
-        Call::Refresh(side) => calls::refresh(b, side).into(),
-        Call::Display(side) => calls::display(b, side).into(),
+        Call::Event(word) => answered(calls::event(b, word), Reply::Told),
+        Call::Turn(knob, new) => answered(calls::turn(b, knob, new), Reply::Plain),
+        Call::Reading(r) => answered(calls::reading(b, r), Reply::Plain),
+        Call::Send(side) => answered(calls::send(b, side), Reply::Plain),
+        Call::Refresh(side) => answered(calls::refresh(b, side), Reply::Plain),
+        Call::Display(side) => answered(calls::display(b, side), Reply::Shows),
     }
 }
 

@@ -10,7 +10,7 @@ use lib.Signed.{mag, le_z}
 use mir.Syntax.{Width, w32, w64}
 use mir.Val.{SFits, to_z, of_z}
 use mir.ValLaws.{to_z-of_z}
-use Rattle.rotation.specs.Rotation.{mod_of, rotation_of}
+use Rattle.rotation.specs.Rotation.{mod_of}
 
 pub up : {z : ℤ} → SFits w32 z → SFits w64 z
 up {z} h = record { sfits = let k = h.sfits in omega arith }
@@ -68,10 +68,3 @@ turned (suc o) new h k =
     sub_case (λ (z : ℤ). mod_of (z +ℤ pos 128) 256 ≡ (new + 384 - suc o) % 256) new (suc o)
     (λ l. sub_case (λ (z : ℤ). mod_of z 256 ≡ (new + 384 - suc o) % 256) 128 (suc (suc o - suc new)) (λ m. omega arith) (λ m. omega arith))
     (λ l. omega arith)
-
--- ---- for callers
-
--- a rotation is from -128 to 127
-pub rotation_mag : (old new : ℕ) → old < 256 → new < 256 → mag (rotation_of old new) < 128
-rotation_mag old new h k =
-    rw (turned old new h k) (sub_case (λ (z : ℤ). mag z < 128) ((new + 384 - old) % 256) 128 (λ l. omega arith) (λ l. omega arith))

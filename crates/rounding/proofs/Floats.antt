@@ -1,16 +1,15 @@
 -- The whole value of the float that a bit pattern is read as, by the pattern's exponent field x, with the digits t. Assumes nothing.
-use mathlib.Core.Path.{◌≡◌, refl, sym, ap, ◌∙◌, subst}
-use mathlib.Core.Bool.{Bool, true, false, not, cond, true≢false}
+use mathlib.Core.Path.{◌≡◌, refl, sym, ap, ◌∙◌}
+use mathlib.Core.Bool.{Bool, true, false, cond, false≢true}
 use Prim.Native.Nat.{ℕ, zero, suc, ◌+◌, ◌-◌, ◌*◌, ◌/◌, ◌%◌, ◌^◌, ◌≤◌, ◌<◌, compare}
 use native.Mathlib.Nat.{le_trans, lt_of_lt_of_le, mod-lt, mul_assoc, mul-le-mul, le-add_right, le-div_iff_mul-le}
 use native.Mathlib.Omega.{arith}
 use borrow.Author.Tests.{eq-eqb, ne_eqb, lt-leb}
 use lib.Dec.{T, leb, eqb}
 use lib.Pow.{pow-add, pow_pos, pow_mono, shl_lt}
-use lib.Ieee.{Float, nan, inf, fin, binary64, up, down, of_fields, of_bits, to_bits, fits, is_nan, ne}
+use lib.Ieee.{Float, nan, inf, fin, binary64, up, down, of_fields, of_bits, to_bits, fits, is_nan}
 use lib.Ieee.Fits.{down_pos}
 use lib.Ieee.Bits.{of_bits-to_bits}
-use lib.Ieee.Compare.{differs_from_itself}
 use lib.Ieee.Exact.{HasValue, odd_sign}
 use lib.Ieee.Nearest.{closest, closest_same, nearest-ge}
 use Rattle.std.specs.Prelude.{Ok, Err}
@@ -126,15 +125,11 @@ module _ (b : ℕ) where
 
 -- ---- of a float
 
-pub no_nan : (x : Float) → ne x x ≡ false → T (not (is_nan x))
-unfolding ne is_nan
-no_nan nan h = absurd (true≢false h)
-no_nan (inf s) h = tt
-no_nan (fin s m e) h = tt
-
-pub nan_whole : (x : Float) → ne x x ≡ true → Err NotFinite ≡ whole_of x
-unfolding whole_of
-nan_whole x h = ap whole_of (sym (differs_from_itself x (subst T (sym h) tt)))
+pub nan_whole : (x : Float) → is_nan x ≡ true → Err NotFinite ≡ whole_of x
+unfolding whole_of is_nan
+nan_whole nan h = refl
+nan_whole (inf s) h = refl
+nan_whole (fin s m e) h = absurd (false≢true h)
 
 pub float_whole : (x : Float) → T (fits binary64 x) → whole_of (of_bits binary64 (to_bits binary64 x)) ≡ whole_of x
 float_whole x h = ap whole_of (of_bits-to_bits binary64 x h)

@@ -77,15 +77,14 @@ fn whole_of_bits(bits: u64) -> Result<i32, NoWhole>
     in_answer(signed(0x8000_0000_0000_0000 <= bits, magnitude))
 }
 
-// The whole value of x. A NaN has no bit pattern of its own, so it is told first, by its being
-// unequal to itself.
-#[tactic(auto, using(crate::proofs::Floats::nan_whole, crate::proofs::Floats::no_nan, crate::proofs::Floats::float_whole))]
+// The whole value of x. A NaN has no bit pattern of its own, so it is told first.
+#[tactic(auto, using(crate::proofs::Floats::nan_whole, crate::proofs::Floats::float_whole))]
 pub fn whole_value(x: f64) -> Result<i32, NoWhole>
     ensures { result ≡ whole_of x }
 {
-    if x != x {
+    if x.is_nan() {
         Err(NoWhole::NotFinite)
     } else {
-        whole_of_bits(f64::to_bits(x))
+        whole_of_bits(x.to_bits())
     }
 }

@@ -1,5 +1,5 @@
 -- The laws of lines: one test of a command and its text, which every case of the table of commands passes. Assumes nothing.
-use Rattle.std.proofs.Common.{◌≡◌, ℕ, ◌^◌, Bool, true, false, cond, eqb, leb, List, [], ◌∷◌, ℤ, Option, Some, None, Ok, Err, refl, leb-true, le-leb}
+use Rattle.std.proofs.Common.{◌≡◌, ℕ, ◌+◌, ◌^◌, Bool, true, false, cond, eqb, leb, List, [], ◌∷◌, ℤ, Option, Some, None, Ok, Err, refl, leb-true, le-leb}
 use Prim.Native.String.{String}
 use Rattle.std.specs.Prelude.{Result}
 use Rattle.std.specs.Bool.{⊤}
@@ -13,10 +13,10 @@ use Rattle.scripts.specs.declared.Command.{Command}
 use Rattle.scripts.specs.declared.Mistake.{Mistake}
 use Rattle.scripts.specs.declared.Mistake.TheVariants.{NoCommand, TooManyWords, NoWord, NoSide, NoKnobNumber, NoCount, NoKnob, NoClicks, NoSwitch, NoSignal, NoWatch, NoKind}
 use Rattle.scripts.specs.declared.Mistake.TheVariants.{NoDamage, NoPf, NoReference, NoSigned, NoSet, NoLength, NoStart, NoPairs, NoFlag, NoSpeed}
-use Rattle.scripts.specs.Commands.{Asked, bytes, beside, watches, kind_numbers, parts, damages, commands, absent, ends_at, if_some, if_reading}
-use Rattle.scripts.specs.Commands.{number_at, side_at, knob_at, reading_at, start_at, figure_at, set_by, is_switch, is_signal, event_named}
-use Rattle.scripts.specs.Commands.{event_of, with_side, turn_of, clicks_of, event_if, watch_of, start_of, area_of_length, poke_of, write_of, read_of}
-use Rattle.scripts.specs.Commands.{damage_pf, damage_independent, damage_set, damage_number, damage_box, damage_whole, damage_reading, reference, damage_of, command_by, command_in, text_of, command_of, pairs_of}
+use Rattle.scripts.specs.Commands.{Asked, bytes, beside, watches, kinds, kind_number, parts, damages, commands, absent, ends_at, if_some, if_reading}
+use Rattle.scripts.specs.Commands.{number_at, side_at, knob_at, reading_at, start_at, set_by, is_switch, is_signal, event_named}
+use Rattle.scripts.specs.Commands.{with_number, with_side, turn_of, clicks_of, event_if, watch_of, start_of, poke_of, write_of, read_of}
+use Rattle.scripts.specs.Commands.{if_number, damage_set, damage_number, damage_box, damage_whole, damage_reading, reference, damage_of, command_by, command_in, text_of, command_of, pairs_of}
 use Rattle.scripts.specs.Laws.{LineLaws}
 
 -- an area of at most 2,048 bytes, and a poke with pairs in word 2
@@ -94,9 +94,9 @@ module _ {text : List ℕ} where
 -- ---- the commands
 
 module _ (text : List ℕ) where
-  event : Meets text (event_of text)
-  unfolding event_of
-  event = given (number_at text 1 4294967295) NoWord (λ n e. ends 2 (Command.Event n) refl)
+  number : (ask : ℕ → Command) (n most : ℕ) (mistake : Mistake) → ((x : ℕ) → number_at text n most ≡ Some x → allows text (ask x) ≡ true) → Meets text (with_number ask n most mistake text)
+  unfolding with_number
+  number ask n most mistake h = given (number_at text n most) mistake (λ x e. ends (n + 1) (ask x) (h x e))
 
   of_side : (ask : ℕ → Command) → ((n : ℕ) → allows text (ask n) ≡ true) → Meets text (with_side ask text)
   unfolding with_side
@@ -126,10 +126,14 @@ module _ (text : List ℕ) where
   unfolding damage_number
   signed_number ask h = given (signed_in (word_of text 3)) NoSigned (λ z e. ends 4 (ask z) (h z))
 
+  set_number : (n : ℕ) {ask : ℕ → Asked} → ((v : ℕ) → Meets text (ask v)) → Meets text (if_number text n ask)
+  set_number n h = given (number_at text n 4294967295) NoSet (λ v e. h v)
+
   of_set : (box : ℕ) → Meets text (damage_set box text)
   unfolding damage_set
   of_set box =
-      given (set_by (figure_at text 3) (figure_at text 4) (figure_at text 5) (figure_at text 6)) NoSet (λ s f. ends 7 (Command.DamageSet box s) refl)
+      set_number 3 (λ lateral. set_number 4 (λ armed. set_number 5 (λ vertical. set_number 6 (λ vappr.
+      given (set_by lateral armed vertical vappr) NoSet (λ s e. ends 7 (Command.DamageSet box s) refl)))))
 
   part : (box : ℕ) → Meets text (damage_box box text)
   unfolding damage_box parts
@@ -142,10 +146,10 @@ module _ (text : List ℕ) where
 
   whole : Meets text (damage_whole text)
   unfolding damage_whole
-  whole = given (beside kind_numbers (word_of text 2)) NoKind (λ kind e. signed_number (λ z. Command.DamageWhole kind z) (λ z. refl))
+  whole = given (beside kinds (word_of text 2)) NoKind (λ kind e. signed_number (λ z. Command.DamageWhole (kind_number kind) z) (λ z. refl))
 
   damage : Meets text (damage_of text)
-  unfolding damage_of damages damage_reading damage_pf damage_independent
+  unfolding damage_of damages damage_reading
   damage =
       table (λ damage. damage text) damages NoDamage (word_of text 1) (
         part 0,
@@ -160,8 +164,8 @@ module _ (text : List ℕ) where
                 (
                   reading (reading_at text 2) (λ r. ends 4 (Command.DamageReading r) refl),
                   (
-                    given (number_at text 2 255) NoPf (λ n f. ends 3 (Command.DamagePf n) refl),
-                    (given (number_at text 2 1) NoFlag (λ n f. ends 3 (Command.DamageIndependent (eqb n 1)) refl), tt),
+                    number (λ n. Command.DamagePf n) 2 255 NoPf (λ n e. refl),
+                    (number (λ n. Command.DamageIndependent (eqb n 1)) 2 1 NoFlag (λ n e. refl), tt),
                   ),
                 ),
               ),
@@ -169,10 +173,6 @@ module _ (text : List ℕ) where
           ),
         ),
       )
-
-  area : Meets text (area_of_length text)
-  unfolding area_of_length
-  area = given (number_at text 1 2048) NoLength (λ n e. ends 2 (Command.Area n) (le-leb n 2048 (number_fits 2048 (word_of text 1) n e)))
 
   poke : Meets text (poke_of text)
   unfolding poke_of
@@ -191,7 +191,7 @@ module _ (text : List ℕ) where
   unfolding command_by commands
   by_name name =
       table (λ command. command text) commands NoCommand name (
-        event,
+        number (λ n. Command.Event n) 1 4294967295 NoWord (λ n e. refl),
         (
           of_side (λ side. Command.Send side) (λ n. refl),
           (
@@ -223,7 +223,7 @@ module _ (text : List ℕ) where
                                     (
                                       damage,
                                       (
-                                        area,
+                                        number (λ n. Command.Area n) 1 2048 NoLength (λ n e. le-leb n 2048 (number_fits 2048 (word_of text 1) n e)),
                                         (
                                           poke,
                                           (

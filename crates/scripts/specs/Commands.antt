@@ -1,10 +1,13 @@
 -- What a line of a script asks for, or what is wrong with it. The console's page, 'Script' and 'Words for people', which docs/MANUAL.md has as its section 5.
-use Rattle.std.specs.Prelude.{ℕ, ◌+◌, ◌^◌, Bool, true, false, not, ◌&&◌, ◌||◌, cond, List, [], ◌∷◌, eqb, leb, ltb, Float, ℤ, length, Option, Some, None, unwrap_or, Result, Ok, Err}
+use Rattle.std.specs.Prelude.{◌≡◌, ℕ, ◌+◌, ◌^◌, Bool, true, false, map, not, ◌&&◌, ◌||◌, cond, List, [], ◌∷◌, eqb, leb, Float, ℤ, length, Option, Some, None, Result, Ok, Err}
 use Rattle.std.specs.Option.{option_or}
 use Prim.Native.Char.{code}
 use Prim.Native.String.{String, [] as nil, ◌∷◌ as ◌then◌}
+use Rattle.modes.specs.declared.Lateral.{Lateral}
+use Rattle.modes.specs.declared.ArmedLateral.{ArmedLateral}
+use Rattle.modes.specs.declared.Vertical.{Vertical}
 use Rattle.modes.specs.declared.ModeSet.{ModeSet}
-use Rattle.codes.specs.Numbers.{modes_by}
+use Rattle.modes.specs.Numbers.{lateral_of, armed_of, vertical_of}
 use Rattle.bench.specs.declared.Reading.{Reading}
 use Rattle.words.specs.Words.{up_to, word_of, same_bytes, lookup_of}
 use Rattle.numerals.specs.Numbers.{number_in, clicks_in}
@@ -12,6 +15,7 @@ use Rattle.numerals.specs.Pairs.{are_pairs}
 use Rattle.numerals.specs.Integers.{signed_in}
 use Rattle.numerals.specs.Values.{value_in}
 use Rattle.scripts.specs.declared.Command.{Command}
+use Rattle.scripts.specs.declared.places.Kind.{Kind}
 use Rattle.scripts.specs.declared.Mistake.{Mistake}
 use Rattle.scripts.specs.declared.Mistake.TheVariants.{NoCommand, TooManyWords, NoWord, NoSide, NoKnobNumber, NoCount, NoKnob, NoClicks, NoSwitch, NoSignal, NoWatch, NoKind, NoValue}
 use Rattle.scripts.specs.declared.Mistake.TheVariants.{NoDamage, NoPf, NoReference, NoSigned, NoSet, NoLength, NoStart, NoPairs, NoFlag, NoSpeed}
@@ -39,21 +43,19 @@ abbrev pub beside : {T : Type 0} → List (String × T) → List ℕ → Option 
 beside [] w = None
 beside (e ∷ es) w = cond (same_bytes w (bytes e.0)) (Some e.1) (beside es w)
 
--- the number of the name that a word is, of so many names that are the words of one text
-unfoldable pub named : List ℕ → ℕ → List ℕ → Option ℕ
-named names total w = cond (ltb (lookup_of w names total) total) (Some (lookup_of w names total)) None
-
 unfoldable pub sides : List (String × ℕ)
 sides = ("left", 0) ∷ ("right", 1) ∷ []
 
 unfoldable pub knobs : List (String × ℕ)
 knobs = ("wheel", 0) ∷ ("altitude", 1) ∷ ("speed", 2) ∷ ("heading", 3) ∷ []
 
--- the events, which are switches and signals, in the order of their numbers from 0: the words of one text
-unfoldable pub event_names : List ℕ
+-- the events, which are switches and signals, in the order of their numbers from 0
+unfoldable pub event_names : List (List ℕ)
 event_names =
-    bytes
-    "ap-disconnect ap overspeed-begins overspeed-ends go-around transfer fd-left fd-right source-changed nav-captured lappr-captured vappr-captured altsel-captured altsel-on-track hdg nav appr vs flc alt independent"
+    map bytes
+    ("ap-disconnect" ∷ "ap" ∷ "overspeed-begins" ∷ "overspeed-ends" ∷ "go-around" ∷ "transfer" ∷ "fd-left" ∷ "fd-right"
+    ∷ "source-changed" ∷ "nav-captured" ∷ "lappr-captured" ∷ "vappr-captured" ∷ "altsel-captured" ∷ "altsel-on-track"
+    ∷ "hdg" ∷ "nav" ∷ "appr" ∷ "vs" ∷ "flc" ∷ "alt" ∷ "independent" ∷ [])
 
 -- ---- the end of a command. A word that is missing is an empty one, which no place accepts
 
@@ -70,9 +72,13 @@ ends_at text n asked = cond (absent text n) (Ok asked) (Err TooManyWords)
 abbrev pub number_at : List ℕ → ℕ → ℕ → Option ℕ
 number_at text n most = number_in most (word_of text n)
 
--- event WORD
-unfoldable pub event_of : List ℕ → Asked
-event_of text = if_some (number_at text 1 4294967295) (λ n. ends_at text 2 (Command.Event n)) NoWord
+-- event WORD, damage pf N, damage independent N (0 is off and 1 is on) and area LENGTH: a number of at most `most`, which is word n and the last one
+unfoldable pub with_number : (ℕ → Command) → ℕ → ℕ → Mistake → List ℕ → Asked
+with_number ask n most mistake text = if_some (number_at text n most) (λ x. ends_at text (n + 1) (ask x)) mistake
+
+-- the calls of a closure answer what a function of numbers has
+abbrev pub Computes : {T : Type 0} → (ℕ → T → Type 0) → (ℕ → T) → Type 0
+Computes {T} answers f = (n : ℕ) (x : T) → answers n x → f n ≡ x
 
 -- word 1 as a side, by its name or by a number
 unfoldable pub side_at : List ℕ → Option ℕ
@@ -105,17 +111,11 @@ is_switch n = leb n 20 && not (is_signal n)
 
 -- the event whose name word 1 is
 unfoldable pub event_named : List ℕ → Option ℕ
-event_named text = named event_names 21 (word_of text 1)
+event_named text = lookup_of (word_of text 1) event_names
 
 -- an event, if it is one of those that the command takes
 unfoldable pub event_if : (ℕ → Bool) → Mistake → List ℕ → Asked
 event_if takes why text = if_some (event_named text) (λ n. cond (takes n) (ends_at text 2 (Command.Event (2 ^ n))) (Err why)) why
-
-abbrev pub press_of : List ℕ → Asked
-press_of text = event_if is_switch NoSwitch text
-
-abbrev pub signal_of : List ℕ → Asked
-signal_of text = event_if is_signal NoSignal text
 
 -- ---- watch on, watch off
 
@@ -132,59 +132,61 @@ start_of text = if_some (signed_in (word_of text 1)) (λ speed. ends_at text 2 (
 
 -- ---- readings: reading KIND VALUE, and damage reading KIND VALUE
 
--- the readings of a kind
-unfoldable pub kinds : List (String × (Float → Reading))
+-- the kinds of readings
+unfoldable pub kinds : List (String × Kind)
 kinds =
-    ("altitude", λ x. Reading.Altitude x)
-    ∷ ("airspeed", λ x. Reading.Airspeed x)
-    ∷ ("vertical-speed", λ x. Reading.VerticalSpeed x)
-    ∷ ("roll", λ x. Reading.Roll x)
-    ∷ ("pitch", λ x. Reading.Pitch x)
-    ∷ ("heading", λ x. Reading.Heading x)
+    ("altitude", Kind.Altitude)
+    ∷ ("airspeed", Kind.Airspeed)
+    ∷ ("vertical-speed", Kind.VerticalSpeed)
+    ∷ ("roll", Kind.Roll)
+    ∷ ("pitch", Kind.Pitch)
+    ∷ ("heading", Kind.Heading)
     ∷ []
+
+-- the reading of a kind
+abbrev pub reading_of : Kind → Float → Reading
+reading_of Kind.Altitude x = Reading.Altitude x
+reading_of Kind.Airspeed x = Reading.Airspeed x
+reading_of Kind.VerticalSpeed x = Reading.VerticalSpeed x
+reading_of Kind.Roll x = Reading.Roll x
+reading_of Kind.Pitch x = Reading.Pitch x
+reading_of Kind.Heading x = Reading.Heading x
 
 -- the words n and n + 1 as a kind and its value, or what is wrong with them
 unfoldable pub reading_at : List ℕ → ℕ → Result Reading Mistake
-reading_at text n = if_some (beside kinds (word_of text n)) (λ kind. if_some (value_in (word_of text (n + 1))) (λ x. Ok (kind x)) NoValue) NoKind
+reading_at text n = if_some (beside kinds (word_of text n)) (λ kind. if_some (value_in (word_of text (n + 1))) (λ x. Ok (reading_of kind x)) NoValue) NoKind
 
 abbrev pub if_reading : Result Reading Mistake → (Reading → Asked) → Asked
 if_reading (Ok r) ask = ask r
 if_reading (Err mistake) ask = Err mistake
 
--- ---- sets, by four numbers: lateral law, armed lateral mode, vertical law, VAPPR armed
+-- ---- sets, by four numbers of 32 bits: lateral law, armed lateral mode, vertical law, VAPPR armed
 
--- a number from 0 to 4,294,967,295; 4,294,967,296 stands for a word that is none, and is in no range
-unfoldable pub figure_at : List ℕ → ℕ → ℕ
-figure_at text n = unwrap_or (number_at text n 4294967295) 4294967296
+-- whether VAPPR is armed, by 0 or 1
+abbrev pub flag_of : ℕ → Option Bool
+flag_of n = cond (eqb n 0) (Some false) (cond (eqb n 1) (Some true) None)
 
--- lateral 0, and three other numbers
-abbrev pub gives_off : ℕ → ℕ → ℕ → ℕ → Bool
-gives_off lateral armed vertical vappr = eqb lateral 0 && (leb armed 4294967295 && (leb vertical 4294967295 && leb vappr 4294967295))
+-- the set that is on and has these modes, if there is each of them
+abbrev pub on_of : Option Lateral → Option ArmedLateral → Option Vertical → Option Bool → Option ModeSet
+on_of (Some l) (Some a) (Some v) (Some f) = Some (ModeSet.On (record { lateral = l; armed = a; vertical = v; vappr_armed = f }))
+on_of l a v f = None
 
-abbrev pub gives_on : ℕ → ℕ → ℕ → ℕ → Bool
-gives_on lateral armed vertical vappr =
-    leb 1 lateral && (leb lateral 5 && (leb armed 2 && (leb 1 vertical && (leb vertical 8 && leb vappr 1))))
-
+-- lateral 0 is Off, whatever the other three are
 unfoldable pub set_by : ℕ → ℕ → ℕ → ℕ → Option ModeSet
 set_by lateral armed vertical vappr =
-    cond (gives_off lateral armed vertical vappr) (Some ModeSet.Off)
-    (cond (gives_on lateral armed vertical vappr) (Some (ModeSet.On (modes_by lateral armed vertical (eqb vappr 1))))
-    None)
+    cond (eqb lateral 0) (Some ModeSet.Off) (on_of (lateral_of lateral) (armed_of armed) (vertical_of vertical) (flag_of vappr))
 
 -- ---- damage
 
--- damage pf N
-unfoldable pub damage_pf : List ℕ → Asked
-damage_pf text = if_some (number_at text 2 255) (λ n. ends_at text 3 (Command.DamagePf n)) NoPf
-
--- damage independent N: 0 is off and 1 is on
-unfoldable pub damage_independent : List ℕ → Asked
-damage_independent text = if_some (number_at text 2 1) (λ n. ends_at text 3 (Command.DamageIndependent (eqb n 1))) NoFlag
+-- what is asked of a number of a set, word n; a word that is no number of 32 bits gives no set
+abbrev pub if_number : List ℕ → ℕ → (ℕ → Asked) → Asked
+if_number text n ask = if_some (number_at text n 4294967295) ask NoSet
 
 -- damage BOX set LATERAL ARMED VERTICAL VAPPR-ARMED
 unfoldable pub damage_set : ℕ → List ℕ → Asked
 damage_set box text =
-    if_some (set_by (figure_at text 3) (figure_at text 4) (figure_at text 5) (figure_at text 6)) (λ set. ends_at text 7 (Command.DamageSet box set)) NoSet
+    if_number text 3 (λ lateral. if_number text 4 (λ armed. if_number text 5 (λ vertical. if_number text 6 (λ vappr.
+    if_some (set_by lateral armed vertical vappr) (λ set. ends_at text 7 (Command.DamageSet box set)) NoSet))))
 
 -- damage BOX REFERENCE N and damage whole KIND N, a signed number of 32 bits
 unfoldable pub damage_number : (ℤ → Command) → List ℕ → Asked
@@ -210,13 +212,18 @@ parts =
 unfoldable pub damage_box : ℕ → List ℕ → Asked
 damage_box box text = if_some (beside parts (word_of text 2)) (λ damage. damage box text) NoReference
 
--- the numbers of the kinds
-unfoldable pub kind_numbers : List (String × ℕ)
-kind_numbers = ("altitude", 0) ∷ ("airspeed", 1) ∷ ("vertical-speed", 2) ∷ ("roll", 3) ∷ ("pitch", 4) ∷ ("heading", 5) ∷ []
+-- the number by which the whole value of a kind is kept
+abbrev pub kind_number : Kind → ℕ
+kind_number Kind.Altitude = 0
+kind_number Kind.Airspeed = 1
+kind_number Kind.VerticalSpeed = 2
+kind_number Kind.Roll = 3
+kind_number Kind.Pitch = 4
+kind_number Kind.Heading = 5
 
 -- the whole value of a kind
 unfoldable pub damage_whole : List ℕ → Asked
-damage_whole text = if_some (beside kind_numbers (word_of text 2)) (λ kind. damage_number (λ x. Command.DamageWhole kind x) text) NoKind
+damage_whole text = if_some (beside kinds (word_of text 2)) (λ kind. damage_number (λ x. Command.DamageWhole (kind_number kind) x) text) NoKind
 
 unfoldable pub damage_reading : List ℕ → Asked
 damage_reading text = if_reading (reading_at text 2) (λ r. ends_at text 4 (Command.DamageReading r))
@@ -230,18 +237,14 @@ damages =
     ∷ ("right-inbox", damage_box 3)
     ∷ ("whole", damage_whole)
     ∷ ("reading", damage_reading)
-    ∷ ("pf", damage_pf)
-    ∷ ("independent", damage_independent)
+    ∷ ("pf", with_number (λ n. Command.DamagePf n) 2 255 NoPf)
+    ∷ ("independent", with_number (λ n. Command.DamageIndependent (eqb n 1)) 2 1 NoFlag)
     ∷ []
 
 unfoldable pub damage_of : List ℕ → Asked
 damage_of text = if_some (beside damages (word_of text 1)) (λ damage. damage text) NoDamage
 
 -- ---- the bus area
-
--- area LENGTH
-unfoldable pub area_of_length : List ℕ → Asked
-area_of_length text = if_some (number_at text 1 2048) (λ n. ends_at text 2 (Command.Area n)) NoLength
 
 -- word n as a place in the area, of 64 bits
 unfoldable pub start_at : List ℕ → ℕ → Option ℕ
@@ -263,7 +266,7 @@ read_of text = if_some (start_at text 1) (λ start. ends_at text 2 (Command.Read
 
 unfoldable pub commands : List (String × (List ℕ → Asked))
 commands =
-    ("event", event_of)
+    ("event", with_number (λ n. Command.Event n) 1 4294967295 NoWord)
     ∷ ("send", with_side (λ side. Command.Send side))
     ∷ ("refresh", with_side (λ side. Command.Refresh side))
     ∷ ("display", with_side (λ side. Command.Display side))
@@ -271,15 +274,15 @@ commands =
     ∷ ("turn", turn_of)
     ∷ ("knob", clicks_of)
     ∷ ("reading", λ text. if_reading (reading_at text 1) (λ r. ends_at text 3 (Command.Reading r)))
-    ∷ ("press", press_of)
-    ∷ ("signal", signal_of)
+    ∷ ("press", event_if is_switch NoSwitch)
+    ∷ ("signal", event_if is_signal NoSignal)
     ∷ ("power-on", λ text. ends_at text 1 Command.PowerOn)
     ∷ ("bench", λ text. ends_at text 1 Command.Bench)
     ∷ ("panel", λ text. ends_at text 1 Command.Panel)
     ∷ ("help", λ text. ends_at text 1 Command.Help)
     ∷ ("watch", watch_of)
     ∷ ("damage", damage_of)
-    ∷ ("area", area_of_length)
+    ∷ ("area", with_number (λ n. Command.Area n) 1 2048 NoLength)
     ∷ ("poke", poke_of)
     ∷ ("write", write_of)
     ∷ ("read", read_of)

@@ -1,17 +1,9 @@
-// The commands of the bus area: its length, bytes to be put there, and the frames that go in and out.
+// The commands of the bus area: bytes to be put there, and the frames that go in and out.
 ghost use Rattle.std.specs.Prelude.{◌≡◌, ok_or};
-ghost use Rattle.scripts.specs.Commands.{start_at, area_of_length, poke_of, write_of, read_of};
+ghost use Rattle.scripts.specs.Commands.{start_at, poke_of, write_of, read_of};
 
-use crate::places::{ends_at, number_at, side_at};
+use crate::places::{ends_at, side_at};
 use crate::{Command, Mistake};
-
-#[tactic(auto, unfolding(crate::specs::Commands::area_of_length))]
-pub(crate) fn area(text: &[u8]) -> Result<Command, Mistake>
-    ensures { result ≡ area_of_length text.now }
-{
-    let length = number_at(text, 1, 2048).ok_or(Mistake::NoLength)?;
-    ends_at(text, 2, Command::Area(length))
-}
 
 // Word n as a place in the area. Whether it lies inside is for who holds the area.
 #[tactic(auto, unfolding(crate::specs::Commands::start_at))]

@@ -2,77 +2,43 @@
 ghost use Rattle.std.specs.Prelude.{◌≡◌, ok_or};
 ghost use Rattle.words.specs.Words.{word_of};
 ghost use Rattle.numerals.specs.Integers.{signed_in};
-ghost use Rattle.scripts.specs.Commands.{figure_at, gives_off, gives_on, set_by};
-ghost use Rattle.scripts.specs.Commands.{damage_pf, damage_independent, damage_set, damage_number, beside, kind_numbers, damage_box, damage_whole, damage_reading, damage_of};
+ghost use Rattle.scripts.specs.Commands.{set_by};
+ghost use Rattle.scripts.specs.Commands.{damage_set, damage_number, damage_box, damage_whole, damage_reading, damage_of};
 
-use crate::places::{ends_at, number_at, reading_at};
+use crate::places::{ends_at, kind_at, number_at, reading_at, with_number};
 use crate::{Command, Mistake};
-use modes::ModeSet;
+use modes::{ArmedLateral, Lateral, ModeSet, Modes, Vertical};
 
-#[tactic(auto, unfolding(crate::specs::Commands::damage_pf))]
-fn damage_pf(text: &[u8]) -> Result<Command, Mistake>
-    ensures { result ≡ damage_pf text.now }
-{
-    let number = number_at(text, 2, 255).ok_or(Mistake::NoPf)?;
-    ends_at(text, 3, Command::DamagePf(number))
-}
-
-#[tactic(auto, unfolding(crate::specs::Commands::damage_independent))]
-fn damage_independent(text: &[u8]) -> Result<Command, Mistake>
-    ensures { result ≡ damage_independent text.now }
-{
-    let number = number_at(text, 2, 1).ok_or(Mistake::NoFlag)?;
-    ends_at(text, 3, Command::DamageIndependent(number == 1))
-}
-
-// The number that a word is, or one that is above all numbers of 32 bits.
-#[tactic(auto, unfolding(crate::specs::Commands::figure_at))]
-fn figure(text: &[u8], n: usize) -> u64
-    ensures { result ≡ figure_at text.now n }
-{
-    number_at(text, n, u32::MAX).map_or(4_294_967_296, u64::from)
-}
-
-// Lateral 0 is Off, whatever the other three numbers are.
-fn gives_off(lateral: u64, armed: u64, vertical: u64, vappr: u64) -> bool
-    ensures { result ≡ gives_off lateral armed vertical vappr }
-{
-    (lateral == 0)
-        & ((armed <= 4_294_967_295) & ((vertical <= 4_294_967_295) & (vappr <= 4_294_967_295)))
-}
-
-fn gives_on(lateral: u64, armed: u64, vertical: u64, vappr: u64) -> bool
-    ensures { result ≡ gives_on lateral armed vertical vappr }
-{
-    (1 <= lateral)
-        & ((lateral <= 5) & ((armed <= 2) & ((1 <= vertical) & ((vertical <= 8) & (vappr <= 1)))))
-}
-
-// The set of four numbers.
+// The set of four numbers. Lateral 0 is Off, whatever the other three are.
 #[tactic(auto, unfolding(crate::specs::Commands::set_by))]
-fn set_by(lateral: u64, armed: u64, vertical: u64, vappr: u64) -> Option<ModeSet>
+fn set_by(lateral: u32, armed: u32, vertical: u32, vappr: u32) -> Option<ModeSet>
     ensures { result ≡ set_by lateral armed vertical vappr }
 {
-    if gives_off(lateral, armed, vertical, vappr) {
+    if lateral == 0 {
         return Some(ModeSet::Off);
     }
-    if gives_on(lateral, armed, vertical, vappr) {
-        return Some(ModeSet::On(codes::modes_by(lateral, armed, vertical, vappr == 1)));
-    }
-    None
+    Some(ModeSet::On(Modes {
+        lateral: Lateral::try_from(lateral).ok()?,
+        armed: ArmedLateral::try_from(armed).ok()?,
+        vertical: Vertical::try_from(vertical).ok()?,
+        vappr_armed: match vappr {
+            0 => false,
+            1 => true,
+            _ => return None,
+        },
+    }))
 }
 
+// A set by the words 3 to 6. A word that is no number gives none.
 #[tactic(auto, unfolding(crate::specs::Commands::damage_set))]
 fn damage_set(text: &[u8], part: u32) -> Result<Command, Mistake>
     ensures { result ≡ damage_set part text.now }
 {
-    let set = set_by(
-        figure(text, 3),
-        figure(text, 4),
-        figure(text, 5),
-        figure(text, 6),
-    )
-    .ok_or(Mistake::NoSet)?;
+    let lateral = number_at(text, 3, u32::MAX).ok_or(Mistake::NoSet)?;
+    let armed = number_at(text, 4, u32::MAX).ok_or(Mistake::NoSet)?;
+    let vertical = number_at(text, 5, u32::MAX).ok_or(Mistake::NoSet)?;
+    let vappr = number_at(text, 6, u32::MAX).ok_or(Mistake::NoSet)?;
+    let set = set_by(lateral, armed, vertical, vappr).ok_or(Mistake::NoSet)?;
     ends_at(text, 7, Command::DamageSet(part, set))
 }
 
@@ -110,28 +76,13 @@ fn damage_box(part: u32, text: &[u8]) -> Result<Command, Mistake>
     }
 }
 
-// The number of the kind that word 2 names.
-#[tactic(auto, unfolding(crate::specs::Commands::kind_numbers))]
-fn kind_number(text: &[u8]) -> Option<u32>
-    ensures { result ≡ beside kind_numbers (word_of text.now 2) }
-{
-    match words::word(text, 2) {
-        b"altitude" => Some(0),
-        b"airspeed" => Some(1),
-        b"vertical-speed" => Some(2),
-        b"roll" => Some(3),
-        b"pitch" => Some(4),
-        b"heading" => Some(5),
-        _ => None,
-    }
-}
-
 #[tactic(auto, unfolding(crate::specs::Commands::damage_number, crate::specs::Commands::damage_whole))]
 fn damage_whole(text: &[u8]) -> Result<Command, Mistake>
     ensures { result ≡ damage_whole text.now }
 {
-    let kind = kind_number(text).ok_or(Mistake::NoKind)?;
-    ends_at(text, 4, Command::DamageWhole(kind, signed_at(text)?))
+    let kind = kind_at(text, 2).ok_or(Mistake::NoKind)?;
+    let x = signed_at(text)?;
+    ends_at(text, 4, Command::DamageWhole(u32::from(kind), x))
 }
 
 #[tactic(auto, unfolding(crate::specs::Commands::damage_reading))]
@@ -153,8 +104,14 @@ pub(crate) fn damage(text: &[u8]) -> Result<Command, Mistake>
         b"right-inbox" => damage_box(3, text),
         b"whole" => damage_whole(text),
         b"reading" => damage_reading(text),
-        b"pf" => damage_pf(text),
-        b"independent" => damage_independent(text),
+        b"pf" => with_number(text, 2, 255, Command::DamagePf, Mistake::NoPf),
+        b"independent" => with_number(
+            text,
+            2,
+            1,
+            |n| Command::DamageIndependent(n == 1),
+            Mistake::NoFlag,
+        ),
         _ => Err(Mistake::NoDamage),
     }
 }

@@ -5,15 +5,15 @@ mod area;
 mod damage;
 mod places;
 
-ghost use Rattle.std.specs.Prelude.{◌≡◌, ◌<◌, ◌^◌};
+ghost use Rattle.std.specs.Prelude.{◌≡◌, ℕ, Bool};
 ghost use Rattle.words.specs.Words.{word_of};
-ghost use Rattle.scripts.specs.Commands.{beside, knobs, event_of, knob_at, turn_of, clicks_of, is_signal, is_switch, event_named, press_of, signal_of, watch_of, start_of};
+ghost use Rattle.scripts.specs.Commands.{beside, knobs, knob_at, turn_of, clicks_of, is_signal, is_switch, event_named, Computes, event_if, watch_of, start_of};
 ghost use Rattle.scripts.specs.Commands.{command_by, command_in, text_of, command_of, pairs_of};
 
 use bench::Reading;
 use damage::damage;
 use modes::ModeSet;
-use places::{ends_at, named, number_at, reading_at, side_at};
+use places::{ends_at, number_at, reading_at, side_at, with_number};
 
 // A box is a part of the bench with a flight director, a set and references: 0 left, 1 right, 2 the
 // left inbox, 3 the right inbox. A reference goes by its place in the order of a display, from 0.
@@ -84,14 +84,6 @@ pub enum Mistake {
     NoSpeed,
 }
 
-#[tactic(auto, unfolding(crate::specs::Commands::event_of))]
-fn event(text: &[u8]) -> Result<Command, Mistake>
-    ensures { result ≡ event_of text.now }
-{
-    let word = number_at(text, 1, u32::MAX).ok_or(Mistake::NoWord)?;
-    ends_at(text, 2, Command::Event(word))
-}
-
 // A knob by its name, or by a number of at most `most`.
 #[tactic(auto, unfolding(crate::specs::Commands::knob_at))]
 fn knob_at(text: &[u8], most: u32) -> Option<u32>
@@ -134,48 +126,60 @@ fn clicks(text: &[u8]) -> Result<Command, Mistake>
     ends_at(text, 3, Command::Knob(knob, clicks))
 }
 
+// The events, in the order of their numbers.
+const EVENTS: [&[u8]; 21] = [
+    b"ap-disconnect",
+    b"ap",
+    b"overspeed-begins",
+    b"overspeed-ends",
+    b"go-around",
+    b"transfer",
+    b"fd-left",
+    b"fd-right",
+    b"source-changed",
+    b"nav-captured",
+    b"lappr-captured",
+    b"vappr-captured",
+    b"altsel-captured",
+    b"altsel-on-track",
+    b"hdg",
+    b"nav",
+    b"appr",
+    b"vs",
+    b"flc",
+    b"alt",
+    b"independent",
+];
+
 // The event whose name word 1 is, by its number.
 #[tactic(auto, unfolding(crate::specs::Commands::event_names, crate::specs::Commands::event_named))]
-fn event_named(text: &[u8]) -> Option<u32>
+fn event_named(text: &[u8]) -> Option<usize>
     ensures { result ≡ event_named text.now }
 {
-    let names =
-        b"ap-disconnect ap overspeed-begins overspeed-ends go-around transfer fd-left fd-right \
-        source-changed nav-captured lappr-captured vappr-captured altsel-captured altsel-on-track \
-        hdg nav appr vs flc alt independent";
-    named(words::word(text, 1), names, 21)
+    words::lookup(words::word(text, 1), &EVENTS)
 }
 
-fn is_signal(n: u32) -> bool
+fn is_signal(n: usize) -> bool
     ensures { result ≡ is_signal n }
 {
     matches!(n, 2..=3 | 8..=13)
 }
 
-fn is_switch(n: u32) -> bool
+fn is_switch(n: usize) -> bool
     ensures { result ≡ is_switch n }
 {
     n <= 20 && !is_signal(n)
 }
 
+// The event of word 1, if the command takes it.
 #[tactic(auto, using(crate::proofs::Events::named_below), unfolding(crate::specs::Commands::event_if))]
-fn press(text: &[u8]) -> Result<Command, Mistake>
-    ensures { result ≡ press_of text.now }
+fn event_if<F: Fn(usize) -> bool>(text: &[u8], takes: F, why: Mistake) -> Result<Command, Mistake>
+    requires { F.IsAlwaysCallable takes }
+    ensures { (test : ℕ → Bool) → Computes (F.post takes) test → result ≡ event_if test why text.now }
 {
-    let n = event_named(text).ok_or(Mistake::NoSwitch)?;
-    if !is_switch(n) {
-        return Err(Mistake::NoSwitch);
-    }
-    ends_at(text, 2, Command::Event(1 << n))
-}
-
-#[tactic(auto, using(crate::proofs::Events::named_below), unfolding(crate::specs::Commands::event_if))]
-fn signal(text: &[u8]) -> Result<Command, Mistake>
-    ensures { result ≡ signal_of text.now }
-{
-    let n = event_named(text).ok_or(Mistake::NoSignal)?;
-    if !is_signal(n) {
-        return Err(Mistake::NoSignal);
+    let n = event_named(text).ok_or(why)?;
+    if !takes(n) {
+        return Err(why);
     }
     ends_at(text, 2, Command::Event(1 << n))
 }
@@ -205,7 +209,7 @@ fn command_by(name: &[u8], text: &[u8]) -> Result<Command, Mistake>
     ensures { result ≡ command_by name.now text.now }
 {
     match name {
-        b"event" => event(text),
+        b"event" => with_number(text, 1, u32::MAX, Command::Event, Mistake::NoWord),
         b"send" => ends_at(text, 2, Command::Send(side_at(text)?)),
         b"refresh" => ends_at(text, 2, Command::Refresh(side_at(text)?)),
         b"display" => ends_at(text, 2, Command::Display(side_at(text)?)),
@@ -213,15 +217,15 @@ fn command_by(name: &[u8], text: &[u8]) -> Result<Command, Mistake>
         b"turn" => turn(text),
         b"knob" => clicks(text),
         b"reading" => ends_at(text, 3, Command::Reading(reading_at(text, 1)?)),
-        b"press" => press(text),
-        b"signal" => signal(text),
+        b"press" => event_if(text, is_switch, Mistake::NoSwitch),
+        b"signal" => event_if(text, is_signal, Mistake::NoSignal),
         b"power-on" => ends_at(text, 1, Command::PowerOn),
         b"bench" => ends_at(text, 1, Command::Bench),
         b"panel" => ends_at(text, 1, Command::Panel),
         b"help" => ends_at(text, 1, Command::Help),
         b"watch" => watch(text),
         b"damage" => damage(text),
-        b"area" => area::area(text),
+        b"area" => with_number(text, 1, 2048, Command::Area, Mistake::NoLength),
         b"poke" => area::poke(text),
         b"write" => area::write(text),
         b"read" => area::read(text),

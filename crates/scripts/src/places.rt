@@ -1,7 +1,7 @@
 // The words of a line in their places: as numbers, as names, as readings; and the end of a command.
-ghost use Rattle.std.specs.Prelude.{◌≡◌, ◌<◌, ok_or};
+ghost use Rattle.std.specs.Prelude.{◌≡◌, ◌<◌, ℕ, ok_or};
 ghost use Rattle.words.specs.Words.{word_of};
-ghost use Rattle.scripts.specs.Commands.{beside, sides, named, ends_at, number_at, side_at, reading_at};
+ghost use Rattle.scripts.specs.Commands.{beside, sides, ends_at, number_at, with_number, Computes, side_at, kinds, kind_number, reading_of, reading_at};
 
 use crate::{Command, Mistake};
 use bench::Reading;
@@ -24,14 +24,21 @@ pub(crate) fn number_at(text: &[u8], n: usize, most: u32) -> Option<u32>
     numerals::number(words::word(text, n), most)
 }
 
-// The number of the name that a word is, of so many names.
-#[tactic(auto, unfolding(crate::specs::Commands::named))]
-pub(crate) fn named(w: &[u8], names: &[u8], total: usize) -> Option<u32>
-    requires { total < 256 }
-    ensures { result ≡ named names.now total w.now }
+// The command of a number of at most `most`, which is word n and the last one.
+#[tactic(auto, unfolding(crate::specs::Commands::with_number))]
+pub(crate) fn with_number<F: FnOnce(u32) -> Command>(
+    text: &[u8],
+    n: usize,
+    most: u32,
+    ask: F,
+    why: Mistake,
+) -> Result<Command, Mistake>
+    requires place { n < 255 }
+    requires callable { F.IsAlwaysCallable ask }
+    ensures { (command : ℕ → Command) → Computes (F.post ask) command → result ≡ with_number command n most why text.now }
 {
-    let n = words::lookup(w, names, total);
-    if n < total { Some(n as u32) } else { None }
+    let number = number_at(text, n, most).ok_or(why)?;
+    ends_at(text, n + 1, ask(number))
 }
 
 // The number of the side that word 1 names.
@@ -56,20 +63,63 @@ pub(crate) fn side_at(text: &[u8]) -> Result<u32, Mistake>
         .ok_or(Mistake::NoSide)
 }
 
+// The kinds of readings, in the order of their numbers.
+#[derive(Clone, Copy)]
+pub(crate) enum Kind {
+    Altitude,
+    Airspeed,
+    VerticalSpeed,
+    Roll,
+    Pitch,
+    Heading,
+}
+
+// The number by which the whole value of a kind is kept.
+impl From<Kind> for u32 {
+    ghost from_gives = { λ kind number. number ≡ kind_number kind };
+
+    fn from(kind: Kind) -> u32 {
+        kind as u32
+    }
+}
+
+// The kind that word n names.
+#[tactic(auto, unfolding(crate::specs::Commands::kinds))]
+pub(crate) fn kind_at(text: &[u8], n: usize) -> Option<Kind>
+    ensures { result ≡ beside kinds (word_of text.now n) }
+{
+    match words::word(text, n) {
+        b"altitude" => Some(Kind::Altitude),
+        b"airspeed" => Some(Kind::Airspeed),
+        b"vertical-speed" => Some(Kind::VerticalSpeed),
+        b"roll" => Some(Kind::Roll),
+        b"pitch" => Some(Kind::Pitch),
+        b"heading" => Some(Kind::Heading),
+        _ => None,
+    }
+}
+
+// The reading of a kind that has this value.
+fn reading_of(kind: Kind, value: f64) -> Reading
+    ensures { result ≡ reading_of kind value }
+{
+    match kind {
+        Kind::Altitude => Reading::Altitude(value),
+        Kind::Airspeed => Reading::Airspeed(value),
+        Kind::VerticalSpeed => Reading::VerticalSpeed(value),
+        Kind::Roll => Reading::Roll(value),
+        Kind::Pitch => Reading::Pitch(value),
+        Kind::Heading => Reading::Heading(value),
+    }
+}
+
 // The reading of KIND VALUE, the words n and n + 1. What is wrong with the kind comes first.
-#[tactic(auto, unfolding(crate::specs::Commands::kinds, crate::specs::Commands::reading_at))]
+#[tactic(auto, unfolding(crate::specs::Commands::reading_at))]
 pub(crate) fn reading_at(text: &[u8], n: usize) -> Result<Reading, Mistake>
     requires { n < 255 }
     ensures { result ≡ reading_at text.now n }
 {
-    let value = numerals::value(words::word(text, n + 1)).ok_or(Mistake::NoValue);
-    match words::word(text, n) {
-        b"altitude" => Ok(Reading::Altitude(value?)),
-        b"airspeed" => Ok(Reading::Airspeed(value?)),
-        b"vertical-speed" => Ok(Reading::VerticalSpeed(value?)),
-        b"roll" => Ok(Reading::Roll(value?)),
-        b"pitch" => Ok(Reading::Pitch(value?)),
-        b"heading" => Ok(Reading::Heading(value?)),
-        _ => Err(Mistake::NoKind),
-    }
+    let kind = kind_at(text, n).ok_or(Mistake::NoKind)?;
+    let value = numerals::value(words::word(text, n + 1)).ok_or(Mistake::NoValue)?;
+    Ok(reading_of(kind, value))
 }

@@ -6,6 +6,7 @@ use Rattle.scripts.specs.Commands.{Asked}
 use Rattle.bench.specs.declared.answers.Refusal.{Refusal}
 use Rattle.bench.specs.declared.answers.Answer.{Answer as CodeAnswer}
 use Rattle.calls.specs.Answers.{EventAnswer, as_event_answer}
+use Rattle.calls.proofs.Answered.{some_number}
 use Rattle.acts.specs.declared.Effect.{Effect}
 use Rattle.acts.specs.Acts.{answer_to, effect_of}
 use Rattle.areas.specs.declared.AreaAct.{AreaAct}
@@ -20,16 +21,7 @@ both : (asked : Asked) (written : Result (Unit {0}) Refusal) (a : CodeAnswer ℕ
     as_taken (record { asked = asked; outcome = result_and written a.outcome; drawn = is_drawn effect watch })
     ≡ answered watch effect (as_event_answer a) (as_area_answer (record { asked = asked; written = written }))
 both asked (Ok x) a effect watch = refl
-both asked (Err Refusal.UnsoundBench) a effect watch = refl
-both asked (Err Refusal.UnknownSide) a effect watch = refl
-both asked (Err Refusal.UnknownKnob) a effect watch = refl
-both asked (Err Refusal.UnknownEvent) a effect watch = refl
-both asked (Err Refusal.NotFinite) a effect watch = refl
-both asked (Err Refusal.OutOfRange) a effect watch = refl
-both asked (Err Refusal.NoRoom) a effect watch = refl
-both asked (Err Refusal.NoFrame) a effect watch = refl
-both asked (Err Refusal.FieldOutOfRange) a effect watch = refl
-both asked (Err Refusal.StartingSpeed) a effect watch = refl
+both asked (Err r) a effect watch = rw (some_number r)
 
 module _ (s : Session) (line : List ℕ) (c : Asked) where
   pub taken_is : (a : CodeAnswer ℕ) (act : Option AreaAct) (done : CodeAreaAnswer) (outcome : Result ℕ Refusal) (effect : Effect) (drawn : Bool) →

@@ -44,7 +44,7 @@ unfolding next refusal
 next_sound b c h =
     rw h
     (by_cond (λ (x : Bench). sound x ≡ true) (eqb (own_refusal c) 0) (ended (done c b)) b
-    (λ e. whole (ended (done c b)) (ended_sound (done c b) (done_sound c b e (parts b h))) (ended_holds (done c b))) (λ e. h))
+    (λ e. search (whole, ended_sound, done_sound, parts, ended_holds)) (λ e. h))
 
 pub keeps_sound : KeepsSound
 keeps_sound = record { start = start_sound; call = next_sound }

@@ -193,9 +193,9 @@ fn read_step<const LIVE: bool>(area: &mut [u8; 2048], b: Bench, word: u64, sum: 
 // The frames that a list of reads begins with, each of another bench, as far as they are accepted.
 fn fill(area: &mut [u8; 2048], seed: u64) {
     let mut word = list::first(seed);
-    for i in 0..107 {
+    for frame in area.chunks_exact_mut(19).take(107) {
         word = list::shuffled(word);
-        let _ = frames::write(bench_of(word), ((word >> 16) % 2) as u32, area, i * 19);
+        let _ = frames::write(bench_of(word), ((word >> 16) % 2) as u32, frame, 0);
     }
 }
 

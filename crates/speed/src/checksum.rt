@@ -26,9 +26,9 @@ impl Sum {
             Call::Event(word) => self.with(u64::from(word)),
             Call::Turn(knob, new) => self.with(pair(knob, u32::from(new))),
             Call::Reading(r) => self.with_reading(r),
-            Call::Send(side) => self.with(u64::from(side)),
-            Call::Refresh(side) => self.with(u64::from(side)),
-            Call::Display(side) => self.with(u64::from(side)),
+            Call::Send(side) | Call::Refresh(side) | Call::Display(side) => {
+                self.with(u64::from(side))
+            }
         }
     }
 
@@ -36,21 +36,24 @@ impl Sum {
     pub(crate) fn with_no_answer(self, call: Call) -> Sum {
         match call {
             Call::Display(_) => self.with_all([0; 3]),
-            Call::Event(_) | Call::Turn(_, _) | Call::Reading(_) => self.with(0),
-            Call::Send(_) | Call::Refresh(_) => self.with(0),
+            Call::Event(_)
+            | Call::Turn(_, _)
+            | Call::Reading(_)
+            | Call::Send(_)
+            | Call::Refresh(_) => self.with(0),
         }
     }
 
     // A reading's kind and its float.
     fn with_reading(self, r: Reading) -> Sum {
-        match r {
-            Reading::Altitude(x) => self.with(0).with(float_code(x)),
-            Reading::Airspeed(x) => self.with(1).with(float_code(x)),
-            Reading::VerticalSpeed(x) => self.with(2).with(float_code(x)),
-            Reading::Roll(x) => self.with(3).with(float_code(x)),
-            Reading::Pitch(x) => self.with(4).with(float_code(x)),
-            Reading::Heading(x) => self.with(5).with(float_code(x)),
-        }
+        let kind = u64::from(bench::feed::kind_of(r));
+        let (Reading::Altitude(x)
+        | Reading::Airspeed(x)
+        | Reading::VerticalSpeed(x)
+        | Reading::Roll(x)
+        | Reading::Pitch(x)
+        | Reading::Heading(x)) = r;
+        self.with(kind).with(float_code(x))
     }
 
     // A side or an inbox. The two laws and the armed sum tell every set from every other.

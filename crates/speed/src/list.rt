@@ -24,7 +24,8 @@ pub(crate) fn first(seed: u64) -> u64 {
 
 // A call's kind: the chosen one, but at each eighth call, and where 6 is chosen at every one, the
 // word's own. 0 event, 1 turn, 2 reading, 3 send, 4 refresh, 5 display.
-// Stays: an argument of the program gives it as a number, and as one it joins the checksum.
+// Stays: an argument of the program gives it as a number, and as one it joins the checksum: an enum made of it would be
+// turned back at once.
 pub(crate) fn kind(word: u64, left: u64, chosen: u64) -> u64
     ensures { result < 6 }
 {

@@ -81,6 +81,7 @@ fn with_digit(value: u64, digit: u8) -> u64 {
 
 // An argument as the number that its digits make; 0 where it is missing or has more than 20 bytes.
 fn argument(rt: &impl Env, i: usize) -> u64 {
+    // Stays: the library writes an argument into a buffer that it is lent, and says how much; a program here has no heap.
     let mut text = [0u8; 20];
     match rt.arg(i, &mut text) {
         Ok(n) => text[..n]

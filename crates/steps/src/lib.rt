@@ -59,8 +59,9 @@ pub fn enter_references(k: Wholes, before: ModeSet, after: ModeSet, r: Reference
     enter_vertical(k, vertical_law(before), vertical_law(after), lateral)
 }
 
-// A side takes another set, with entry.
+// A side takes another set, with entry. Not inlined, it makes a refresh an eighth longer.
 #[tactic(auto, unfolding(crate::specs::Entry::enter, crate::specs::Entry::settled, bench::specs::Parts::with_set, bench::specs::Parts::with_references))]
+#[inline]
 pub fn settle(b: Bench, side: u32, after: ModeSet) -> Bench
     ensures { result ≡ settled after side b }
 {

@@ -1,6 +1,6 @@
 -- The laws of specs/Laws.antt: a run is all that its test holds of, and the test fails where it ends. Assumes nothing.
-use mathlib.Core.Path.{◌≡◌, refl, sym, ap, ◌∙◌}
-use mathlib.Core.Bool.{Bool, true, false, not, cond, false≢true}
+use mathlib.Core.Path.{◌≡◌, refl, sym, ◌∙◌}
+use mathlib.Core.Bool.{Bool, true, false, not, cond}
 use mathlib.Core.List.{List, [], ◌∷◌}
 use Prim.Native.Nat.{ℕ, zero, suc, ◌<◌}
 use native.Mathlib.Nat.{le_of_suc-le-suc, not-suc-le-zero}
@@ -8,9 +8,9 @@ use native.Mathlib.Omega.{arith}
 use borrow.Author.Tests.{eqb-false, not-true, not-false}
 use lib.ListN.{length, get_or, drop, take-append-drop, length-take}
 use lib.Seq.{get_or-take}
-use Rattle.words.specs.Words.{run, is_space, leading, place_of, up_to, past_spaces, first_word, past_word, rest, word_of, same_bytes, lookup_of}
-use Rattle.words.specs.Laws.{IsFirst, WordLaws, Example}
-use lib.Pointwise.{bytes_decides}
+use Rattle.words.specs.Words.{run, is_space, leading, place_of, up_to, past_spaces, first_word, past_word, rest, word_of}
+use Rattle.words.specs.Laws.{WordLaws, Example}
+use Rattle.words.proofs.Names.{lookup_first}
 
 -- ---- a run
 
@@ -49,28 +49,6 @@ behind_run p (b ∷ bs) h = go (p b) refl h (behind_run p bs)
     go : (q : Bool) → p b ≡ q → 0 < length (behind q) → (0 < length (drop (run p bs) bs) → p (get_or (drop (run p bs) bs) 0 0) ≡ false) → p (get_or (behind q) 0 0) ≡ false
     go true e h f = f h
     go false e h f = e
-
--- ---- the first name that is w
-
-rest_past : (n : ℕ) (text : List ℕ) → rest n (past_word text) ≡ rest (suc n) text
-rest_past zero text = refl
-rest_past (suc n) text = ap past_word (rest_past n text)
-
-lookup_first : (w names : List ℕ) (total : ℕ) → IsFirst w names total (lookup_of w names total)
-unfolding word_of
-lookup_first w names zero = record { within = omega arith; is = λ h. absurd (not-suc-le-zero h); before = λ j h. absurd (not-suc-le-zero h) }
-lookup_first w names (suc n) = go (same_bytes w (first_word names)) refl (lookup_first w (past_word names) n)
-  where
-    later : (j : ℕ) → word_of names (suc j) ≡ word_of (past_word names) j
-    later j = ap first_word (sym (rest_past j names))
-
-    go : {k : ℕ} (q : Bool) → same_bytes w (first_word names) ≡ q → IsFirst w (past_word names) n k → IsFirst w names (suc n) (cond q 0 (suc k))
-    go true e f = record { within = omega arith; is = λ h. sym ((bytes_decides w (first_word names)).0 e); before = λ j h. absurd (not-suc-le-zero h) }
-    go {k} false e f = record { within = omega arith; is = λ h. later k ∙ f.is (le_of_suc-le-suc h); before = first }
-      where
-        first : (j : ℕ) → j < suc k → word_of names j ≡ w → ⊥
-        first zero h g = false≢true (sym e ∙ rw g ((bytes_decides w w).1 refl))
-        first (suc j) h g = f.before j (le_of_suc-le-suc h) (sym (later j) ∙ g)
 
 -- ---- all of them
 

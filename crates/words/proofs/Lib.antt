@@ -1,3 +1,4 @@
 pub mod Runs
 pub mod Names
+pub mod Parts
 pub mod Laws

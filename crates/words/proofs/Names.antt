@@ -1,33 +1,62 @@
--- For `lookup`: a walk past the names that are not w. Assumes nothing.
-use Rattle.std.proofs.Common.{◌≡◌, ℕ, suc, ◌+◌, ◌-◌, ◌≤◌, ◌<◌, true, false, List, arith, add-one}
-use native.Mathlib.Nat.{sub-zero}
-use Rattle.words.specs.Words.{same_bytes, word_of, rest, lookup_of}
+-- For `lookup`: what `position` finds among references to texts, and what that says of the names. Assumes nothing.
+use Rattle.std.proofs.Common.{◌≡◌, ◌∙◌, ℕ, zero, suc, ◌+◌, ◌<◌, Bool, true, false, not, cond, ltb, ltb-true, ltb-false, lt-ltb, Option, Some, None, position, List, [], ◌∷◌, length, get_or, Bor, refl, sym, ap, arith}
+use Rattle.std.specs.Option.{option_map}
+use Rattle.std.specs.List.{prefix_len}
+use mathlib.Core.Bool.{false≢true}
+use lib.Pointwise.{bytes_decides}
+use Rattle.words.specs.Words.{same_bytes, texts, lookup_of}
+use Rattle.words.specs.Laws.{IsFirst}
 
--- i names are passed, and none of them is w
-pub record PassedNames (w names : List ℕ) (total i : ℕ) : Type 0 where
-  pub is : lookup_of w names total ≡ i + lookup_of w (rest i names) (total - i)
-  pub within : i ≤ total
+-- one more in front moves what is found by one
+behind : (n m : ℕ) → cond (ltb (1 + n) (suc m)) (Some (1 + n)) None ≡ option_map suc (cond (ltb n m) (Some n) None)
+behind n m = go (ltb n m) (ltb (1 + n) (suc m)) refl refl
+  where
+    go : (t u : Bool) → ltb n m ≡ t → ltb (1 + n) (suc m) ≡ u → cond u (Some (1 + n)) None ≡ option_map suc (cond t (Some n) None)
+    go true true e f = ap (λ (k : ℕ). Some k) (omega arith)
+    go false false e f = refl
+    go true false e f = let l = ltb-true n m e in let g = ltb-false (1 + n) (suc m) f in absurd (omega arith)
+    go false true e f = let l = ltb-false n m e in let g = ltb-true (1 + n) (suc m) f in absurd (omega arith)
 
-module _ {w names : List ℕ} {total : ℕ} where
-  pub none : PassedNames w names total 0
-  none = record { is = rw sub-zero (omega arith); within = omega arith }
+pub position_is : (w : List ℕ) (names : List (Bor (List ℕ))) → position (λ (b : Bor (List ℕ)). same_bytes w b.now) names ≡ lookup_of w (texts names)
+position_is w [] = refl
+position_is w (b ∷ bs) = go (same_bytes w b.now) (position_is w bs)
+  where
+    n : ℕ
+    n = prefix_len (λ (b : Bor (List ℕ)). not (same_bytes w b.now)) bs
 
-  module _ {i : ℕ} (past : PassedNames w names total i) where
-    left : i < total → total - i ≡ suc (total - suc i)
-    left h = omega arith
+    at : Bool → ℕ
+    at t = cond (not t) (1 + n) 0
 
-    pub more : i < total → same_bytes w (word_of names i) ≡ false → PassedNames w names total (i + 1)
-    unfolding word_of
-    more h t =
-        let e : lookup_of w (rest i names) (total - i) ≡ suc (lookup_of w (rest (suc i) names) (total - suc i)) = rw (left h, t) in
-        rw add-one (record { is = omega arith; within = omega arith })
+    go : (t : Bool) → cond (ltb n (length bs)) (Some n) None ≡ lookup_of w (texts bs) → cond (ltb (at t) (suc (length bs))) (Some (at t)) None ≡ cond t (Some 0) (option_map suc (lookup_of w (texts bs)))
+    go true h = rw (lt-ltb 0 (suc (length bs)) (omega arith)) refl
+    go false h = behind n (length bs) ∙ ap (option_map suc) h
 
-    pub found : i < total → same_bytes w (word_of names i) ≡ true → i ≡ lookup_of w names total
-    unfolding word_of
-    found h t = let e : lookup_of w (rest i names) (total - i) ≡ 0 = rw (left h, t) in omega arith
+pub lookup_first : (w : List ℕ) (names : List (List ℕ)) → IsFirst w names (lookup_of w names)
+lookup_first w [] = record { within = λ i e. absurd (none e); is = λ i e. absurd (none e); before = λ i j e. absurd (none e); missing = λ j e h. absurd (omega arith) }
+  where
+    none : {i : ℕ} → ◌≡◌ {A = Option ℕ} None (Some i) → ⊥
+    none e = let z : ◌≡◌ {A = ℕ} 0 1 = cc in omega arith
+lookup_first w (name ∷ names) = go (same_bytes w name) refl (lookup_of w names) (lookup_first w names)
+  where
+    go : (q : Bool) → same_bytes w name ≡ q → (found : Option ℕ) → IsFirst w names found → IsFirst w (name ∷ names) (cond q (Some 0) (option_map suc found))
+    go true e found f = record { within = λ i g. let z : 0 ≡ i = cc in omega arith; is = first; before = λ i j g h. let z : 0 ≡ i = cc in absurd (omega arith); missing = λ j g. let z : ◌≡◌ {A = ℕ} 0 1 = cc in absurd (omega arith) }
+      where
+        first : (i : ℕ) → ◌≡◌ {A = Option ℕ} (Some 0) (Some i) → get_or (name ∷ names) i [] ≡ w
+        first zero g = sym ((bytes_decides w name).0 e)
+        first (suc i) g = let z : 0 ≡ suc i = cc in absurd (omega arith)
+    go false e None f = record { within = λ i g. let z : ◌≡◌ {A = ℕ} 0 1 = cc in absurd (omega arith); is = λ i g. let z : ◌≡◌ {A = ℕ} 0 1 = cc in absurd (omega arith); before = λ i j g. let z : ◌≡◌ {A = ℕ} 0 1 = cc in absurd (omega arith); missing = missing }
+      where
+        differs : name ≡ w → ⊥
+        differs k = let t : same_bytes w name ≡ true = (bytes_decides w name).1 (sym k) in let z : ◌≡◌ {A = Bool} false true = cc in false≢true z
 
-    pub missing : total ≤ i → total ≡ lookup_of w names total
-    missing h =
-        let l : total - i ≡ 0 = omega arith in
-        let e : lookup_of w (rest i names) (total - i) ≡ 0 = rw l in
-        omega arith
+        missing : (j : ℕ) → ◌≡◌ {A = Option ℕ} None None → j < suc (length names) → get_or (name ∷ names) j [] ≡ w → ⊥
+        missing zero g h k = differs k
+        missing (suc j) g h k = f.missing j refl (omega arith) k
+    go false e (Some k) f = record { within = λ i g. let z : suc k ≡ i = cc in let l = f.within k refl in omega arith; is = is; before = before; missing = λ j g. let z : ◌≡◌ {A = ℕ} 0 1 = cc in absurd (omega arith) }
+      where
+        is : (i : ℕ) → ◌≡◌ {A = Option ℕ} (Some (suc k)) (Some i) → get_or (name ∷ names) i [] ≡ w
+        is i g = let z : i ≡ suc k = cc in rw z (f.is k refl)
+
+        before : (i j : ℕ) → ◌≡◌ {A = Option ℕ} (Some (suc k)) (Some i) → j < i → get_or (name ∷ names) j [] ≡ w → ⊥
+        before i zero g h l = let t : same_bytes w name ≡ true = (bytes_decides w name).1 (sym l) in let z : ◌≡◌ {A = Bool} false true = cc in false≢true z
+        before i (suc j) g h l = let z : i ≡ suc k = cc in f.before k j refl (omega arith) l

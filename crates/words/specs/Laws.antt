@@ -1,12 +1,13 @@
 -- What the definitions of specs/Words.antt mean, and an example. `word_laws` and `example` of proofs/Laws.antt prove it.
-use Rattle.std.specs.Prelude.{◌≡◌, true, false, List, [], ◌∷◌, ◌++◌, ℕ, ◌≤◌, ◌<◌, length, get_or, take}
+use Rattle.std.specs.Prelude.{◌≡◌, true, false, List, [], ◌∷◌, ◌++◌, ℕ, ◌<◌, Option, Some, None, length, get_or, take}
 use Rattle.words.specs.Words.{is_space, leading, up_to, past_spaces, first_word, past_word, word_of, lookup_of}
 
--- i is the number of the first of total names that is w, or total where none is
-pub record IsFirst (w names : List ℕ) (total i : ℕ) : Type 0 where
-  pub within : i ≤ total
-  pub is : i < total → word_of names i ≡ w
-  pub before : (j : ℕ) → j < i → word_of names j ≡ w → ⊥
+-- what is found is the number of the first of the names that is w, and nothing where none is
+pub record IsFirst (w : List ℕ) (names : List (List ℕ)) (found : Option ℕ) : Type 0 where
+  pub within : (i : ℕ) → found ≡ Some i → i < length names
+  pub is : (i : ℕ) → found ≡ Some i → get_or names i [] ≡ w
+  pub before : (i j : ℕ) → found ≡ Some i → j < i → get_or names j [] ≡ w → ⊥
+  pub missing : (j : ℕ) → found ≡ None → j < length names → get_or names j [] ≡ w → ⊥
 
 pub record WordLaws : Type 0 where
   -- a text up to a byte does not hold it, and a word holds no space
@@ -17,7 +18,7 @@ pub record WordLaws : Type 0 where
   pub word_end : (text : List ℕ) → 0 < length (past_word text) → is_space (get_or (past_word text) 0 0) ≡ true
   -- a text is its leading spaces, its first word and what follows that
   pub whole : (text : List ℕ) → take (leading true text) text ++ (first_word text ++ past_word text) ≡ text
-  pub lookup_first : (w names : List ℕ) (total : ℕ) → IsFirst w names total (lookup_of w names total)
+  pub lookup_first : (w : List ℕ) (names : List (List ℕ)) → IsFirst w names (lookup_of w names)
 
 -- "event"
 abbrev pub event : List ℕ
@@ -35,6 +36,6 @@ pub record Example : Type 0 where
   pub first : word_of two_words 0 ≡ event
   pub second : word_of two_words 1 ≡ sixteen
   pub none : word_of two_words 2 ≡ []
-  pub found : lookup_of sixteen two_words 2 ≡ 1
-  pub missing : lookup_of (54 ∷ []) two_words 2 ≡ 2
+  pub found : lookup_of sixteen (event ∷ sixteen ∷ []) ≡ Some 1
+  pub missing : lookup_of (54 ∷ []) (event ∷ sixteen ∷ []) ≡ None
   pub key : up_to 32 (event ++ 32 ∷ sixteen) ≡ event

@@ -1,5 +1,7 @@
 -- The words of a text, which is a list of bytes: the runs of bytes that are no spaces. The console's page, 'Script'.
-use Rattle.std.specs.Prelude.{ℕ, zero, suc, Bool, true, false, not, cond, ◌||◌, List, [], ◌∷◌, eqb, take, drop}
+use Rattle.std.specs.Prelude.{ℕ, zero, suc, Bool, true, false, not, cond, ◌||◌, List, [], ◌∷◌, eqb, take, drop, map, Option, Some, None}
+use Rattle.std.specs.Option.{option_map}
+use denote.Bor.{Bor}
 use Rattle.std.specs.Cmp.Lexicographic.{pointwise}
 
 -- how many bytes a text has in front of the first that a test does not hold of
@@ -52,7 +54,11 @@ word_of text n = first_word (rest n text)
 abbrev pub same_bytes : List ℕ → List ℕ → Bool
 same_bytes s t = pointwise eqb s t
 
--- the number of the first of total names that is w; total where none is. The names are the words of one text
-abbrev pub lookup_of : List ℕ → List ℕ → ℕ → ℕ
-lookup_of w names zero = 0
-lookup_of w names (suc n) = cond (same_bytes w (first_word names)) 0 (suc (lookup_of w (past_word names) n))
+-- the texts that a slice of them refers to
+abbrev pub texts : List (Bor (List ℕ)) → List (List ℕ)
+texts names = map (λ b. b.now) names
+
+-- the number of the first of the names that is w, if one is
+abbrev pub lookup_of : List ℕ → List (List ℕ) → Option ℕ
+lookup_of w [] = None
+lookup_of w (name ∷ names) = cond (same_bytes w name) (Some 0) (option_map suc (lookup_of w names))

@@ -8,7 +8,9 @@
 //!   that take an answer to the paper's numbers and never two answers to the same. No right side mentions
 //!   `result`, a `.new` or an `.exit`, since such an equation may hold of every answer. `EXCEPTIONS` lists the
 //!   functions that settle it otherwise;
-//! - an `impl From` says what it gives: `ghost from_gives = { λ x y. y ≡ .. }`, an equation of the same kind;
+//! - an `impl From` says what it gives: `ghost from_gives = { λ x y. y ≡ .. }`, an equation of the same kind; an
+//!   `impl TryFrom`, whose error is a struct of this file without fields, so that there is one, says for which values
+//!   it gives what: `ghost try_from_gives = { λ x y. result_ok y ≡ .. }`;
 //! - `result` is what the function returns: no parameter, no ghost value and no variable of a clause is
 //!   called so, since the result would be captured, and the contract would say nothing;
 //! - `≡` is that of the library's Prelude or of mathlib.Core.Path, and no `ghost use` gives `⌜`, `⌝`,
@@ -481,15 +483,32 @@ fn silent_conversions(text: &str) -> Vec<String> {
         let brace = at + text[at..].find('{')?;
         let head = on_one_line(&text[at..brace]);
         let body = bracketed(&text[brace..], '{', '}').map_or("", |(body, _)| body);
-        let is_conversion = head.contains(" From<") || head.contains("> From<");
-        (is_conversion && !gives(body)).then_some(head)
+        let is = |name: &str| {
+            head.contains(&format!(" {name}<")) || head.contains(&format!("> {name}<"))
+        };
+        let says = if is("From") {
+            gives(body, "from_gives", "")
+        } else if is("TryFrom") {
+            has_one_error(text, body) && gives(body, "try_from_gives", "result_ok ")
+        } else {
+            true
+        };
+        (!says).then_some(head)
     });
     each.collect()
 }
 
-/// Whether a conversion's block has an equation on what it gives.
-fn gives(body: &str) -> bool {
-    let Some((_, rest)) = body.split_once("ghost from_gives = ") else {
+/// Whether the error of a conversion's block is a struct of the file without fields.
+fn has_one_error(text: &str, body: &str) -> bool {
+    let error = body
+        .split_once("type Error = ")
+        .and_then(|(_, rest)| rest.split_once(';'));
+    error.is_some_and(|(name, _)| text.contains(&format!("struct {name};")))
+}
+
+/// Whether a conversion's block has an equation, in the member of this name, on what it gives, or on a part of it.
+fn gives(body: &str, member: &str, part: &str) -> bool {
+    let Some((_, rest)) = body.split_once(&format!("ghost {member} = ")) else {
         return false;
     };
     let Some((text, _)) = bracketed(rest, '{', '}') else {
@@ -508,7 +527,7 @@ fn gives(body: &str) -> bool {
         return false;
     };
     let words = pieces(right, char::is_whitespace);
-    left.trim() == *given
+    left.trim() == format!("{part}{given}")
         && !right.trim().is_empty()
         && words.iter().all(|word| is_of_a_term(word))
         && names(right).all(|name| name != *given)
@@ -687,6 +706,28 @@ mod tests {
         }
         let generic = "impl<T> From<E> for S<T> {\n    fn from(e: E) -> S<T> {\n    }\n}\n";
         assert_eq!(said(generic).len(), 1);
+    }
+
+    #[test]
+    fn a_conversion_that_can_fail_says_what_it_gives() {
+        let of = |error: &str, line: &str| {
+            said(&format!(
+                "{error}\nimpl TryFrom<u32> for E {{\n    type Error = No;\n    {line}\n    fn try_from(n: u32) -> Result<E, No> {{\n    }}\n}}\n"
+            ))
+        };
+        let good = "ghost try_from_gives = { λ n r. result_ok r ≡ f n };";
+        assert_eq!(of("struct No;", good), Vec::<String>::new());
+        assert_eq!(of("struct No(u32);", good).len(), 1);
+        let silent = [
+            "",
+            "ghost try_from_gives = { λ n r. r ≡ f n };",
+            "ghost try_from_gives = { λ n r. result_ok r ≡ result_ok r };",
+            "ghost try_from_gives = { λ n r. ⊤ };",
+            "ghost from_gives = { λ n r. result_ok r ≡ f n };",
+        ];
+        for line in silent {
+            assert_eq!(of("struct No;", line).len(), 1, "{line}");
+        }
     }
 
     #[test]

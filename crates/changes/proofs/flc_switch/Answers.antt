@@ -3,11 +3,11 @@ use Rattle.std.proofs.Common.{refl}
 use Rattle.changes.proofs.Joins.{vertical_is, vertical_not, flc_switched}
 use Rattle.changes.proofs.flc_switch.Goals as goal
 
-pub returns-then-flag : goal.returns-then-flag
-returns-then-flag c = flc_switched _ _ _ _ (vertical_is c.in-Flc.is) c.if-flag.true
+pub returns-in-Flc : goal.returns-in-Flc
+returns-in-Flc c = flc_switched _ _ _ _ (vertical_is c.in-Flc.is) c.if-flag.true
 
-pub returns-else-flag : goal.returns-else-flag
-returns-else-flag c = flc_switched _ _ _ _ (vertical_is c.in-Flc.is) c.if-flag.false
+pub returns-in-Flc-2 : goal.returns-in-Flc-2
+returns-in-Flc-2 c = flc_switched _ _ _ _ (vertical_is c.in-Flc.is) c.if-flag.false
 
 pub returns-in_default : goal.returns-in_default
 returns-in_default c = rw c.to_vertical.ensures (flc_switched _ _ _ _ (vertical_not c.in_default.not-Flc) refl)

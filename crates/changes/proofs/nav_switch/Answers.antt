@@ -1,16 +1,26 @@
 -- `changes::nav_switch` meets its contract: NAV is cleared where the rule finds it engaged or armed, and else it is armed.
-use Rattle.std.proofs.Common.{refl}
-use Rattle.changes.proofs.Joins.{lateral_is, lateral_not, nav_switched}
+use Rattle.std.proofs.Common.{◌≡◌, ◌⊎◌, rules}
+use Rattle.modes.specs.declared.Lateral.{Lateral}
+use Rattle.modes.specs.declared.ArmedLateral.{ArmedLateral}
+use Rattle.changes.proofs.Joins.{lateral_not, nav_switched, nav_switched_off}
+use Rattle.changes.proofs.nav_switch.Goals.{After-clear_nav, After-clear_lappr}
 use Rattle.changes.proofs.nav_switch.Goals as goal
 
-pub returns-in-Nav : goal.returns-in-Nav
-returns-in-Nav c = rw c.clear_nav.ensures (nav_switched _ _ _ (lateral_is c.in-Nav.is) refl)
+-- what led to each arm, as far as it has no name
+selected : (c : After-clear_nav) → (c.args.m.lateral ≡ Lateral.Nav) ⊎ (c.args.m.armed ≡ ArmedLateral.Nav)
+selected c = search rules
 
-pub returns-in-Neither : goal.returns-in-Neither
-returns-in-Neither c = nav_switched _ _ _ (lateral_not c.in_default.not-Nav) c.in-Neither.is
+not_engaged_beside_lappr : (c : After-clear_lappr) → c.args.m.lateral ≡ Lateral.Nav → ⊥
+not_engaged_beside_lappr c e = search rules
 
-pub returns-in-Nav-armed : goal.returns-in-Nav-armed
-returns-in-Nav-armed c = rw c.clear_nav-in-Nav-armed.ensures (nav_switched _ _ _ (lateral_not c.in_default.not-Nav) c.in-Nav-armed.is)
+not_engaged_beside_none : (c : goal.In_default-Neither) → c.args.m.lateral ≡ Lateral.Nav → ⊥
+not_engaged_beside_none c e = search rules
 
-pub returns-in-Lappr : goal.returns-in-Lappr
-returns-in-Lappr c = rw c.clear_lappr.ensures (nav_switched _ _ _ (lateral_not c.in_default.not-Nav) c.in-Lappr.is)
+pub returns-in-Nav-default : goal.returns-in-Nav-default
+returns-in-Nav-default c = rw c.clear_nav.ensures (nav_switched_off _ (selected c))
+
+pub returns-in_default-Lappr : goal.returns-in_default-Lappr
+returns-in_default-Lappr c = rw c.clear_lappr.ensures (nav_switched _ _ _ (lateral_not (not_engaged_beside_lappr c)) c.in_default-Lappr.is-1)
+
+pub returns-in_default-Neither : goal.returns-in_default-Neither
+returns-in_default-Neither c = nav_switched _ _ _ (lateral_not (not_engaged_beside_none c)) c.in_default-Neither.is-1

@@ -6,11 +6,11 @@ use Rattle.changes.proofs.overspeed_begins.Goals as goal
 pub returns-in-Alt : goal.returns-in-Alt
 returns-in-Alt c = overspeed_begun _ _ _ _ (altitude_held c.in-Alt.is) refl
 
-pub returns-then-flag : goal.returns-then-flag
-returns-then-flag c =
+pub returns-in_default : goal.returns-in_default
+returns-in_default c =
     overspeed_begun _ _ _ _ (altitude_not_held _ c.in_default.not-Alt c.in_default.not-AltselCapture c.in_default.not-AltselTrack) c.if-flag.true
 
-pub returns-else-flag : goal.returns-else-flag
-returns-else-flag c =
+pub returns-in_default-2 : goal.returns-in_default-2
+returns-in_default-2 c =
     rw c.to_vertical.ensures
     (overspeed_begun _ _ _ _ (altitude_not_held _ c.in_default.not-Alt c.in_default.not-AltselCapture c.in_default.not-AltselTrack) c.if-flag.false)

@@ -1,5 +1,5 @@
 -- `knobs::turn_wheel` meets its contract: each arm computes the rule with the vertical law that it matched.
-use Rattle.std.proofs.Common.{◌≡◌, ◌≢◌, ℕ, sym, ap, ◌∙◌, arith}
+use Rattle.std.proofs.Common.{inl, inr, ◌≡◌, ◌≢◌, ℕ, sym, ap, ◌∙◌, rules}
 use borrow.Author.Tests.{ne_eqb}
 use Rattle.modes.specs.Numbers.{vertical_law}
 use Rattle.bench.specs.declared.Channel.{Channel}
@@ -15,7 +15,10 @@ law_is b s e h = e ∙ ap (λ (x : Channel). vertical_law x.set) h
 pub returns-in-0 : goal.returns-in-0
 returns-in-0 c =
     let law = law_is c.args.b c.args.side c.vertical_law-law.ensures c.box_of-c.ensures in
-    wheel_by_law c.args.rotation.clicks c.args.side c.args.b 0 (sym c.in-0.is ∙ law)
+    elim c.in-0.is [
+      | inl e ↦ wheel_by_law c.args.rotation.clicks c.args.side c.args.b 0 (sym e ∙ law)
+      | inr e ↦ wheel_by_law c.args.rotation.clicks c.args.side c.args.b 7 (sym e ∙ law)
+    ]
 
 pub returns-in-1 : goal.returns-in-1
 returns-in-1 c =
@@ -27,18 +30,13 @@ returns-in-2 c =
     let law = law_is c.args.b c.args.side c.vertical_law-law.ensures c.box_of-c.ensures in
     rw c.move_reference-in-2.ensures (wheel_by_law c.args.rotation.clicks c.args.side c.args.b 2 (sym c.in-2.is ∙ law))
 
-pub returns-in-7 : goal.returns-in-7
-returns-in-7 c =
-    let law = law_is c.args.b c.args.side c.vertical_law-law.ensures c.box_of-c.ensures in
-    wheel_by_law c.args.rotation.clicks c.args.side c.args.b 7 (sym c.in-7.is ∙ law)
-
 pub returns-in_default : goal.returns-in_default
 returns-in_default c =
     let law = law_is c.args.b c.args.side c.vertical_law-law.ensures c.box_of-c.ensures in
-    let not-0 : c.vertical_law-law.result ≢ 0 = omega arith in
-    let not-1 : c.vertical_law-law.result ≢ 1 = omega arith in
-    let not-2 : c.vertical_law-law.result ≢ 2 = omega arith in
-    let not-7 : c.vertical_law-law.result ≢ 7 = omega arith in
+    let not-0 : c.vertical_law-law.result ≢ 0 = search rules in
+    let not-1 : c.vertical_law-law.result ≢ 1 = search rules in
+    let not-2 : c.vertical_law-law.result ≢ 2 = search rules in
+    let not-7 : c.vertical_law-law.result ≢ 7 = search rules in
     rw c.engage_pitch_on.ensures
     (simp (ne_eqb _ _ not-0, ne_eqb _ _ not-1, ne_eqb _ _ not-2, ne_eqb _ _ not-7)
     at (wheel_by_law c.args.rotation.clicks c.args.side c.args.b c.vertical_law-law.result law))
