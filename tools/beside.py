@@ -2,12 +2,13 @@
 """Old beside new, as docs/DESIGN-PASS.md ends with it, from what the kit's contracts.py lists of two checkouts:
 
     python3 /opt/rattle/port/contracts.py OLD NEW --json > contracts.json
-    python3 tools/beside.py contracts.json
+    python3 tools/beside.py contracts.json OLD NEW
 
 A signature and a clause stand whole; of a definition whose two texts are long only what differs.
 """
 import difflib
 import json
+import os
 import re
 import sys
 
@@ -34,6 +35,19 @@ def differences(old, new):
     return '; '.join((cell(x) or 'nothing') + ' → ' + (cell(y) or 'nothing') + (f' ({n} times)' if n > 1 else '') for (x, y), n in seen.items())
 
 
+def types(root):
+    """Public structs and enums of a checkout, without comments: crate and name, text."""
+    found = {}
+    for crate in sorted(os.listdir(f'{root}/crates')):
+        source = f'{root}/crates/{crate}/src'
+        for name in sorted(os.listdir(source)):
+            text = re.sub(r'//[^\n]*', '', open(f'{source}/{name}', encoding='utf-8').read())
+            item = r'((?:^#\[derive\([^\]]*\)\]\n)?)^pub (struct|enum) (\w+)([^{;]*)(\{.*?^\}|;)'
+            for m in re.finditer(item, text, re.M | re.S):
+                found[crate, m.group(3)] = ''.join(m.group(1, 2)) + ' ' + ''.join(m.group(3, 4, 5))
+    return found
+
+
 def main():
     listed = json.load(open(sys.argv[1], encoding='utf-8'))
     def place(name):
@@ -45,6 +59,11 @@ def main():
     print('\n#### Clauses\n\n| function | old | new |\n| --- | --- | --- |')
     for name, old_requires, old_ensures, new_requires, new_ensures in sorted(listed['contracts changed']):
         print(f'| `{place(name)}` | {clauses(old_requires, old_ensures)} | {clauses(new_requires, new_ensures)} |')
+    old, new = types(sys.argv[2]), types(sys.argv[3])
+    print('\n#### Public types\n\n| type | old | new |\n| --- | --- | --- |')
+    for key in sorted(old.keys() | new.keys()):
+        if old.get(key) != new.get(key):
+            print(f'| `{key[0]}`: `{key[1]}` | {cell(old.get(key, ""))} | {cell(new.get(key, ""))} |')
     print('\n#### Definitions, records and theorems of specs/\n\n| definition | old → new |\n| --- | --- |')
     for crate, name, old, new in sorted(listed['definitions']['changed']):
         a, b = ' '.join(old), ' '.join(new)

@@ -15,6 +15,7 @@ use damage::{damage_pf, damage_reading, damage_reference, damage_set, damage_who
 use scripts::{Command, Mistake};
 
 // The answer of a call or a start that is no event: 32 names none.
+// Stays: as document 01 has it; an Option, here and in what a session takes, would be made 32 where the line is written.
 fn eventless(a: Answer<()>) -> Answer<u32>
     ensures { as_event_answer result ≡ eventless (as_answer a) }
 {

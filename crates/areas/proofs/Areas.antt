@@ -53,15 +53,16 @@ module _ (start : ℕ) (bytes area : List ℕ) where
       go false e = refl
       go true e = length_laid bytes start area (within e)
 
--- ---- an area that has room for 2,048 bytes
+-- ---- an area that has room for so many bytes
 
--- what its slice holds afterwards, which is as long, is the area
-pub seen : (area after : List ℕ) → length area ≤ 2048 → length after ≡ length area → refill (length area) area after ≡ take 2048 after
-seen area after h e = items-with_items (record { items = area }) after e ∙ sym (take_all 2048 after (omega arith))
+module _ (room : ℕ) where
+  -- what its slice holds afterwards, which is as long, is the area
+  pub seen : (area after : List ℕ) → length area ≤ room → length after ≡ length area → refill (length area) area after ≡ take room after
+  seen area after h e = items-with_items (record { items = area }) after e ∙ sym (take_all room after (omega arith))
 
--- the first zeros of as many as it has room for
-pub zeros_kept : (n : ℕ) → take n (replicate {A = ℕ} 2048 0) ≡ take 2048 (replicate {A = ℕ} n 0)
-zeros_kept n = elim (dec_le n 2048) [
-  | yes l ↦ take-replicate {X = ℕ} n 2048 0 l ∙ sym (take_all 2048 (replicate {A = ℕ} n 0) (omega (arith, length-replicate {A = ℕ} n 0)))
-  | no l ↦ take_all n (replicate {A = ℕ} 2048 0) (omega (arith, length-replicate {A = ℕ} 2048 0)) ∙ sym (take-replicate {X = ℕ} 2048 n 0 (omega arith))
-]
+  -- the first zeros of as many as it has room for
+  pub zeros_kept : (n : ℕ) → take n (replicate {A = ℕ} room 0) ≡ take room (replicate {A = ℕ} n 0)
+  zeros_kept n = elim (dec_le n room) [
+    | yes l ↦ take-replicate {X = ℕ} n room 0 l ∙ sym (take_all room (replicate {A = ℕ} n 0) (omega (arith, length-replicate {A = ℕ} n 0)))
+    | no l ↦ take_all n (replicate {A = ℕ} room 0) (omega (arith, length-replicate {A = ℕ} room 0)) ∙ sym (take-replicate {X = ℕ} room n 0 (omega arith))
+  ]

@@ -1,4 +1,4 @@
-// What a line of a script does to the bus area, which has room for 2,048 bytes.
+// What a line of a script does to the bus area, which has room for as many bytes as its caller gave it.
 #![tactic(auto)]
 
 ghost use Rattle.std.specs.Prelude.{◌≡◌, cond, take, replicate, Ok, Err};
@@ -11,6 +11,7 @@ use bench::answers::Refusal;
 use scripts::{Command, Mistake};
 
 // What is done to the area.
+// Stays: a side by number, which `frames::write` refuses where it is none.
 #[derive(Clone, Copy)]
 pub enum AreaAct {
     Clears(u32),
@@ -27,10 +28,10 @@ fn lie_inside(start: u64, line: &[u8], area: &[u8]) -> bool
 }
 
 // So many zeros, as many as an area has room for.
-fn zeros(n: usize) -> ArrayVec<u8, 2048>
-    ensures { result.items ≡ take 2048 (replicate n 0) }
+fn zeros<const N: usize>(n: usize) -> ArrayVec<u8, N>
+    ensures { result.items ≡ take N (replicate n 0) }
 {
-    let mut area = ArrayVec::from([0; 2048]);
+    let mut area = ArrayVec::from([0; N]);
     area.truncate(n);
     area
 }
@@ -56,15 +57,15 @@ pub struct AreaAnswer {
 
 // Carries out a line's act on the area, if it has one.
 #[tactic(auto, unfolding(crate::specs::Areas::area_answer))]
-pub fn answer_in(
+pub fn answer_in<const N: usize>(
     act: Option<AreaAct>,
     asked: Result<Command, Mistake>,
     line: &[u8],
     b: Bench,
-    area: &mut ArrayVec<u8, 2048>,
+    area: &mut ArrayVec<u8, N>,
 ) -> AreaAnswer
     ensures answer { as_area_answer result ≡ area_answer act asked line.now b area.old.items }
-    ensures new_area { area.new.items ≡ take 2048 (area_by act line.now b area.old.items) }
+    ensures new_area { area.new.items ≡ take N (area_by act line.now b area.old.items) }
 {
     let bytes = area.as_mut_slice();
     let mut answer = AreaAnswer {

@@ -1,7 +1,8 @@
 // The parts of a bench: each can be read and replaced, by its number where it has one. A caller that
 // knows the field reads it itself, and replaces it by a struct update.
 // Stays: a side, box, place, knob or kind is a u32 here, since callers may pass any; each function says
-// what the numbers past the last one give. Private functions of the crates above hand such a number on.
+// what the numbers past the last one give. The crate's `ranges` and `feed` and the calls above take such a number too, and
+// their private functions hand it on.
 ghost use Rattle.std.specs.Prelude.{◌≡◌};
 ghost use Rattle.bench.specs.Parts.{with_shared, with_counts, with_readings, with_wholes, box, with_box, with_fd, with_set, with_references, with_pf, reference, with_reference, zero_references, count_of, with_count, with_whole};
 ghost use Rattle.bench.specs.Independent.{with_operation};

@@ -19,6 +19,7 @@ pub struct Display {
 }
 
 // The event that an answer names: 32 where it is refused, or where no bit was set.
+// Stays: document 01 has 32 for a word of no bits, and the trailing zeros of such a word are as many.
 pub fn event_in(answer: Answer<u32>) -> u32
     ensures { result ≡ event_in answer.outcome }
 {

@@ -1,5 +1,6 @@
 // What each event does to an On set. The paper's rules are in modes/specs/Events.antt; here they go
 // by the modes that are engaged and by what is armed.
+// Stays: a mode is held in a local for its match, as document 01 has it.
 #![tactic(auto)]
 
 ghost use Rattle.std.specs.Prelude.{◌≡◌, cond};

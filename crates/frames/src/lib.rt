@@ -10,6 +10,7 @@ use bench::answers::Refusal;
 use bench::{Bench, Channel, References};
 
 // What a frame says: the side it is of, and the side's flight director, set and references.
+// Stays: a side by number, here and in `write`, which takes any and refuses those that are none.
 #[derive(Clone, Copy)]
 pub struct Frame {
     pub side: u32,

@@ -10,6 +10,7 @@ use bench::answers::Refusal;
 use calls::answers::Display;
 
 // The two laws of a display.
+// Stays: by number, as document 01 has them in a display; the guidance program picks a control law by it.
 #[derive(Clone, Copy)]
 pub struct Laws {
     pub lateral: u32,

@@ -35,6 +35,10 @@ pub record Dropped (kept : ℕ) (half rest : Bool) (m p : ℕ) : Type 0 where
   pub whole : kept ≡ m / p
   pub remainder : Lies half rest (m % p) p
 
+-- none are dropped yet
+pub dropped_none : (m : ℕ) → Dropped m false false m (2 ^ 0)
+dropped_none m = record { above = omega arith; whole = omega arith; remainder = omega arith }
+
 -- one digit more
 pub dropped_more : {k : ℕ} {h s : Bool} {m : ℕ} (n : ℕ) → Dropped k h s m (2 ^ n) → Dropped (k / 2) (eqb (k % 2) 1) (h || s) m (2 ^ (n + 1))
 dropped_more {k} {h} {s} {m} n d = rw (add-one, pow-succ' 2 n) (go (2 ^ n) d)

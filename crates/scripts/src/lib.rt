@@ -17,6 +17,7 @@ use places::{ends_at, number_at, reading_at, side_at, with_number};
 
 // A box is a part of the bench with a flight director, a set and references: 0 left, 1 right, 2 the
 // left inbox, 3 the right inbox. A reference goes by its place in the order of a display, from 0.
+// Stays: these, and sides, knobs and kinds, are numbers, since a script may name any number and the calls refuse it.
 #[derive(Clone, Copy)]
 pub enum Command {
     Blank,
@@ -127,6 +128,7 @@ fn clicks(text: &[u8]) -> Result<Command, Mistake>
 }
 
 // The events, in the order of their numbers.
+// Stays: an event goes by its number, since it goes out as the word that has its bit.
 const EVENTS: [&[u8]; 21] = [
     b"ap-disconnect",
     b"ap",
@@ -204,6 +206,7 @@ fn start(text: &[u8]) -> Result<Command, Mistake>
 }
 
 // The command of a name, from the words of a text.
+// Stays: a match on a word with a call for each, here and in `damage`: the words are closed.
 #[tactic(auto, unfolding(crate::specs::Commands::with_side, crate::specs::Commands::commands, crate::specs::Commands::command_by))]
 fn command_by(name: &[u8], text: &[u8]) -> Result<Command, Mistake>
     ensures { result ≡ command_by name.now text.now }

@@ -64,6 +64,7 @@ pub(crate) fn side_at(text: &[u8]) -> Result<u32, Mistake>
 }
 
 // The kinds of readings, in the order of their numbers.
+// Stays: beside bench's Reading, since a kind is read before its value is, and document 01 has each case of that carry one.
 #[derive(Clone, Copy)]
 pub(crate) enum Kind {
     Altitude,

@@ -14,7 +14,7 @@ use bench::answers::Refusal;
 use scripts::{Command, Mistake};
 
 // What is kept from one byte of a script to the next.
-#[derive(Drop)]
+#[derive(Clone, Drop)]
 pub struct Session {
     pub bench: Bench,
     // line ends so far, modulo 2^64

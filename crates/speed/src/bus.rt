@@ -136,6 +136,8 @@ fn is_spoiled(word: u64) -> bool {
 
 // ---- the steps
 
+// Stays: the area is of a fixed size, since a bus area is lent and a program here has no heap.
+
 // A write: start, side and refusal make one word. Where LIVE is false no call is made, here and below.
 fn write_step<const LIVE: bool>(area: &mut [u8; 2048], b: Bench, word: u64, sum: Sum) -> Sum {
     let at = start(word, (word >> 24) % 2030);

@@ -120,8 +120,8 @@ pub(crate) fn in_eighths(low: f64, wholes: u32, word: u64) -> f64
 // A float of any pattern, or infinity, or no number.
 fn rare_value(word: u64) -> f64 {
     match (word >> 14) % 4 {
-        0 => 1.0 / 0.0,
-        1 => 0.0 / 0.0,
+        0 => f64::INFINITY,
+        1 => f64::NAN,
         _ => number_forms::from_pattern(shuffled(word)),
     }
 }

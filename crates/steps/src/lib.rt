@@ -181,6 +181,7 @@ pub fn second_step(side: u32, b: Bench) -> ModeSet
     }
 }
 
+// Stays: beside `pitch_in` of the crate knobs, which says why.
 #[tactic(auto, unfolding(crate::specs::Steps::third_step))]
 fn third_step(e: Event, flag: bool, s: ModeSet) -> ModeSet
     ensures { result ≡ third_step e flag s }
