@@ -1,7 +1,7 @@
 #!/usr/bin/env python3
 """Old beside new, as docs/DESIGN-PASS.md ends with it, from what the kit's contracts.py lists of two checkouts:
 
-    python3 /opt/rattle/port/contracts.py OLD NEW --json > contracts.json
+    python3 KIT/port/contracts.py OLD NEW --json > contracts.json
     python3 tools/beside.py contracts.json OLD NEW
 
 A signature and a clause stand whole; of a definition whose two texts are long only what differs.
