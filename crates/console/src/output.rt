@@ -39,10 +39,11 @@ impl Outlet {
             return;
         }
         self.flush();
-        if self.waiting.try_extend_from_slice(bytes).is_err() {
-            if let Err(e) = self.to.write_all(bytes) {
-                self.failed = Some(e);
-            }
+        if self.waiting.try_extend_from_slice(bytes).is_ok() {
+            return;
+        }
+        if let Err(e) = self.to.write_all(bytes) {
+            self.failed = Some(e);
         }
     }
 }
