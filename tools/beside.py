@@ -20,6 +20,10 @@ def cell(text):
     return '`' + ' '.join(text.split()).replace('|', '\\|') + '`' if text.strip() else ''
 
 
+def place(name):
+    return name.replace(' ', '/', 1)
+
+
 def clauses(requires, ensures):
     lines = [('requires', name, text) for name, text in requires] + [('ensures', name, text) for name, text in ensures]
     return '<br>'.join(cell(' '.join(f'{kind} {name} {{ {text} }}'.split())) for kind, name, text in lines)
@@ -44,15 +48,12 @@ def types(root):
             text = re.sub(r'//[^\n]*', '', open(f'{source}/{name}', encoding='utf-8').read())
             item = r'((?:^#\[derive\([^\]]*\)\]\n)?)^pub (struct|enum) (\w+)([^{;]*)(\{.*?^\}|;)'
             for m in re.finditer(item, text, re.M | re.S):
-                found[crate, m.group(3)] = ''.join(m.group(1, 2)) + ' ' + ''.join(m.group(3, 4, 5))
+                found[crate, m.group(3)] = '{}{} {}{}{}'.format(*m.groups())
     return found
 
 
 def main():
     listed = json.load(open(sys.argv[1], encoding='utf-8'))
-    def place(name):
-        return name.replace(' ', '/', 1)
-
     print('#### Signatures\n\n| function | old | new |\n| --- | --- | --- |')
     for name, old, new in sorted(listed['signatures changed']):
         print(f'| `{place(name)}` | {cell(old)} | {cell(new)} |')
