@@ -2,14 +2,13 @@
 use mathlib.Core.Path.{◌≡◌, refl, sym, ap, ◌∙◌, subst}
 use mathlib.Core.Bool.{Bool, true, false, ◌&&◌, cond}
 use mathlib.Core.List.{List, [], ◌∷◌}
-use Prim.Native.Nat.{ℕ, zero, suc, ◌+◌, ◌≤◌, ◌<◌}
-use native.Mathlib.Nat.{le_of_suc-le-suc, not-suc-le-zero, zero-add}
+use Prim.Native.Nat.{ℕ, zero, suc, ◌≤◌, ◌<◌}
+use native.Mathlib.Nat.{le_of_suc-le-suc, not-suc-le-zero}
 use native.Mathlib.Omega.{arith}
 use borrow.Author.Tests.{ltb-true, ltb-false}
 use lib.Dec.{T, eqb, ltb, eqb→eq, ltb→lt}
 use lib.ListN.{length, get_or}
 use Rattle.std.specs.Prelude.{Some, None}
-use Rattle.std.specs.List.{slice_get}
 use Rattle.std.proofs.lemmas.Option.{slice_get_past, slice_get-get_or}
 use Rattle.modes.specs.declared.ModeSet.{ModeSet}
 use Rattle.modes.specs.Sets.{engaged, armed, cleared, once, coherent, coherent_set}
@@ -18,6 +17,7 @@ use Rattle.modes.proofs.Every.{at_sets}
 use Rattle.codes.specs.Codes.{coded_sets, same_set, place_in, code_of, set_of}
 use Rattle.codes.specs.Laws.{OneSet, rank, CodeLaws}
 use Rattle.codes.proofs.Joins.{off_code, count, same_set_lem}
+use Rattle.codes.proofs.Places.{every_from, at_place}
 
 -- the set at the place of a set in a list is that set
 place_back : (xs : List ModeSet) (s : ModeSet) → place_in xs s < length xs → get_or xs (place_in xs s) ModeSet.Off ≡ s
@@ -62,12 +62,11 @@ all_coded : (s : ModeSet) → T (coded s)
 unfolding code_of coded_sets coherent once cleared armed engaged
 all_coded = at_sets coded tt
 
--- the sets of a list are coherent and have the codes from k on
-abbrev placed : ℕ → List ModeSet → Bool
-placed k [] = true
-placed k (s ∷ ss) = coherent_set s && (eqb (code_of s) k && placed (suc k) ss)
+-- a set is coherent and has a code
+abbrev placed : ℕ → ModeSet → Bool
+placed code s = coherent_set s && eqb (code_of s) code
 
-all_placed : T (placed 0 coded_sets)
+all_placed : T (every_from placed 0 coded_sets)
 unfolding code_of coded_sets coherent once cleared armed engaged
 all_placed = tt
 
@@ -118,25 +117,18 @@ pub no_set : (n : ℕ) → 108 ≤ n → set_of n ≡ None
 unfolding set_of
 no_set n h = slice_get_past coded_sets n (subst (λ (k : ℕ). k ≤ n) (sym count) h)
 
--- the set at a place of a list whose sets have the codes from k on
-one_set : (k n : ℕ) (ss : List ModeSet) → T (placed k ss) → n < length ss →
-    (s : ModeSet) × (slice_get ss n ≡ Some s) × T (coherent_set s) × (code_of s ≡ k + n)
-one_set k n [] t h = absurd (not-suc-le-zero h)
-one_set k zero (s ∷ ss) t h =
-    let rest = both_right (coherent_set s) (eqb (code_of s) k && placed (suc k) ss) t in
-    let code = eqb→eq (code_of s) k (both_left (eqb (code_of s) k) (placed (suc k) ss) rest) in
-    (s, refl, both_left (coherent_set s) (eqb (code_of s) k && placed (suc k) ss) t, omega arith)
-one_set k (suc n) (s ∷ ss) t h =
-    let rest = both_right (coherent_set s) (eqb (code_of s) k && placed (suc k) ss) t in
-    let found = one_set (suc k) n ss (both_right (eqb (code_of s) k) (placed (suc k) ss) rest) (le_of_suc-le-suc h) in
-    let code = found.3 in
-    (found.0, found.1, found.2, omega arith)
-
 set_at : (n : ℕ) → n < 108 → OneSet n
 unfolding set_of
 set_at n h =
-    let found = one_set 0 n coded_sets all_placed (let k = count in omega arith) in
-    record { set = found.0; has = found.1; coherent = found.2; back = found.3 ∙ zero-add n }
+    let s = get_or coded_sets n ModeSet.Off in
+    let inside = subst (λ (k : ℕ). n < k) (sym count) h in
+    let t = at_place placed ModeSet.Off coded_sets all_placed n inside in
+    record {
+      set = s;
+      has = slice_get-get_or coded_sets n ModeSet.Off inside;
+      coherent = both_left (coherent_set s) (eqb (code_of s) n) t;
+      back = eqb→eq (code_of s) n (both_right (coherent_set s) (eqb (code_of s) n) t);
+    }
 
 pub code_laws : CodeLaws
 code_laws = record { count = count; off = off_code; code = code_below; set_back = set_back; set = set_at; ordered = ordered; no_code = no_code; no_set = no_set }
