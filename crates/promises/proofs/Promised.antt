@@ -8,6 +8,7 @@ use Rattle.bench.proofs.Replaced.{part_laws}
 use Rattle.bench.proofs.WholeLaws.{reading_laws, reading_examples}
 use Rattle.bench.proofs.StartLaws.{start_laws}
 use Rattle.codes.proofs.Laws.{code_laws}
+use Rattle.codes.proofs.Poster.{poster_laws}
 use Rattle.frames.proofs.Laws.{frame_laws, frame_examples}
 use Rattle.steps.proofs.Rounded.{entry_laws}
 use Rattle.soundness.proofs.Kept.{keeps_sound, laws_in_range}
@@ -51,6 +52,7 @@ promises = record {
   feed_laws = feed_laws;
   entry_laws = entry_laws;
   code_laws = code_laws;
+  poster_laws = poster_laws;
   frame_laws = frame_laws;
   frame_examples = frame_examples;
   same_as_sent = same_as_sent;

@@ -14,6 +14,7 @@ use Rattle.bench.specs.Laws.{PartLaws}
 use Rattle.bench.specs.Wholes.{ReadingLaws, ReadingExamples}
 use Rattle.bench.specs.Sound.{sound}
 use Rattle.codes.specs.Laws.{CodeLaws}
+use Rattle.codes.specs.Poster.{PosterLaws}
 use Rattle.frames.specs.Laws.{FrameLaws, FrameExamples}
 use Rattle.steps.specs.Laws.{EntryLaws}
 use Rattle.calls.specs.declared.call.Call.{Call}
@@ -69,6 +70,8 @@ pub record Promises : Type 2 where
   pub entry_laws : EntryLaws
   -- set codes, and frames: what is written is read back, from one frame, as a send would copy it
   pub code_laws : CodeLaws
+  -- the list of all coherent sets holds each once, in the order of the codes, and no other
+  pub poster_laws : PosterLaws
   pub frame_laws : FrameLaws
   pub frame_examples : FrameExamples
   pub same_as_sent : SameAsSent

@@ -36,6 +36,7 @@ const FIELDS: &[&str] = &[
     "feed_laws : FeedLaws",
     "entry_laws : EntryLaws",
     "code_laws : CodeLaws",
+    "poster_laws : PosterLaws",
     "frame_laws : FrameLaws",
     "frame_examples : FrameExamples",
     "same_as_sent : SameAsSent",
