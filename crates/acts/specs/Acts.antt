@@ -3,7 +3,7 @@
 use Rattle.std.specs.Prelude.{ℕ, ◌+◌, ◌%◌, Ok, Err}
 use Rattle.scripts.specs.Commands.{Asked}
 use Rattle.scripts.specs.declared.Command.TheVariants.{Blank, Event, Send, Refresh, Display, Pick, Turn, Knob, Reading, PowerOn, Start, Panel, Help, Watch}
-use Rattle.scripts.specs.declared.Command.TheVariants.{DamagePf, DamageReading, DamageWhole, DamageSet, DamageReference, DamageIndependent, Area, Poke, Write, Read, Bytes}
+use Rattle.scripts.specs.declared.Command.TheVariants.{DamagePf, DamageReading, DamageWhole, DamageSet, DamageReference, DamageIndependent, Area, Poke, Write, Read, Bytes, Codes}
 use Rattle.scripts.specs.declared.Command.TheVariants.{Bench as WriteBench}
 use Rattle.bench.specs.declared.Bench.{Bench}
 use Rattle.bench.specs.Holds.{power_on, Started, started}
@@ -61,6 +61,7 @@ answer_to (Ok (Poke start)) b = leaves b
 answer_to (Ok (Write side start)) b = leaves b
 answer_to (Ok (Read start)) b = leaves b
 answer_to (Ok Bytes) b = leaves b
+answer_to (Ok Codes) b = leaves b
 
 -- the bench after a command
 abbrev pub bench_after : Asked → Bench → Bench
@@ -96,3 +97,4 @@ effect_of (Ok (Poke start)) = Effect.Stores (AreaAct.Pokes start)
 effect_of (Ok (Write side start)) = Effect.Stores (AreaAct.Writes side start)
 effect_of (Ok (Read start)) = Effect.Shows
 effect_of (Ok Bytes) = Effect.Shows
+effect_of (Ok Codes) = Effect.Shows

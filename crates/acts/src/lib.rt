@@ -68,7 +68,8 @@ pub fn effect_of(asked: Result<Command, Mistake>) -> Effect
         | Command::Panel
         | Command::Help
         | Command::Read(_)
-        | Command::Bytes => Effect::Shows,
+        | Command::Bytes
+        | Command::Codes => Effect::Shows,
         Command::Event(_)
         | Command::Send(_)
         | Command::Refresh(_)
@@ -126,6 +127,7 @@ pub fn answer_to(b: Bench, asked: Result<Command, Mistake>) -> Answer<u32>
         | Command::Poke(_)
         | Command::Write(_, _)
         | Command::Read(_)
-        | Command::Bytes => leaves(b),
+        | Command::Bytes
+        | Command::Codes => leaves(b),
     }
 }

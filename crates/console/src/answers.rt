@@ -53,6 +53,7 @@ fn put_reply(out: &mut Outlet, taken: &Taken, command: Command, session: &Sessio
         Command::Write(_, _) => writeln!(out, "write {refusal}"),
         Command::Read(start) => put_read(out, session.area(), start),
         Command::Bytes => put_bytes(out, session.area()),
+        Command::Codes => writeln!(out, "codes{}", Numbers(&codes::set_numbers())),
     }
 }
 

@@ -36,7 +36,8 @@ pub(crate) fn reason(mistake: Mistake) -> &'static str {
 
 const COMMANDS: &str =
     "no such command; there are event, press, signal, turn, knob, reading, send, refresh, display, \
-pick, power-on, start, bench, panel, watch, help, damage, area, poke, write, read and bytes";
+pick, power-on, start, bench, panel, watch, help, damage, area, poke, write, read, bytes \
+and codes";
 
 const KNOB_NUMBERS: &str =
     "KNOB is wheel, altitude, speed, heading or a number from 0 to 4294967295";
@@ -95,5 +96,6 @@ poke START HEX      put bytes into it, as pairs of hexadecimal digits\n\
 write SIDE START    put the frame of a side into it: flight director, modes and targets, in 19 bytes\n\
 read START          what the frame there says, in numbers\n\
 bytes               all bytes of the area\n\
+codes               all sets by their codes, each as lateral law x 256 + vertical law x 16 + armed sum\n\
 help                this list\n\
 end\n";

@@ -194,6 +194,16 @@ impl Display for Numbers<'_, Bench> {
     }
 }
 
+// All sets, a number for each code.
+impl Display for Numbers<'_, [u16; 108]> {
+    fn fmt<W: fmt::Write>(&self, f: &mut Formatter<W>) -> fmt::Result {
+        for number in self.0 {
+            write!(f, " {number}")?;
+        }
+        Ok(())
+    }
+}
+
 // What a frame says; one that is refused says nothing.
 impl Display for Numbers<'_, Result<Frame, Refusal>> {
     fn fmt<W: fmt::Write>(&self, f: &mut Formatter<W>) -> fmt::Result {

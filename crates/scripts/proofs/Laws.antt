@@ -47,6 +47,7 @@ allows text (Command.Poke start) = are_pairs (word_of text 2)
 allows text (Command.Write side start) = true
 allows text (Command.Read start) = true
 allows text Command.Bytes = true
+allows text Command.Codes = true
 
 -- what is wrong with a line stays within them
 abbrev meets : List ℕ → Asked → Bool
@@ -232,7 +233,7 @@ module _ (text : List ℕ) where
                                               read,
                                               (
                                                 ends 1 Command.Bytes refl,
-                                                (begin, tt),
+                                                (begin, (ends 1 Command.Codes refl, tt)),
                                               ),
                                             ),
                                           ),

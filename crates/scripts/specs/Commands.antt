@@ -288,6 +288,7 @@ commands =
     ∷ ("read", read_of)
     ∷ ("bytes", λ text. ends_at text 1 Command.Bytes)
     ∷ ("start", start_of)
+    ∷ ("codes", λ text. ends_at text 1 Command.Codes)
     ∷ []
 
 -- the command of a name, of a text

@@ -106,6 +106,8 @@ examples =
     ∷ ("read -1", Err NoStart)
     ∷ ("bytes", Ok Command.Bytes)
     ∷ ("bytes 1", Err TooManyWords)
+    ∷ ("codes", Ok Command.Codes)
+    ∷ ("codes 1", Err TooManyWords)
     ∷ []
 
 -- each line asks for what stands beside it

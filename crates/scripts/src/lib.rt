@@ -51,6 +51,8 @@ pub enum Command {
     Write(u32, u64),
     Read(u64),
     Bytes,
+    // all coherent sets, as numbers in the order of their codes
+    Codes,
 }
 
 // What is wrong with a line: the place where it went wrong. The console has a text for each.
@@ -234,6 +236,7 @@ fn command_by(name: &[u8], text: &[u8]) -> Result<Command, Mistake>
         b"read" => area::read(text),
         b"bytes" => ends_at(text, 1, Command::Bytes),
         b"start" => start(text),
+        b"codes" => ends_at(text, 1, Command::Codes),
         _ => Err(Mistake::NoCommand),
     }
 }

@@ -41,6 +41,7 @@ module _ (line : List ℕ) (b : Bench) (area : List ℕ) (h : length area ≤ 20
   by_command (Ok (Command.Write side start)) k = rw (frame_laws.same_length b side start area) h
   by_command (Ok (Command.Read start)) k = h
   by_command (Ok Command.Bytes) k = h
+  by_command (Ok Command.Codes) k = h
 
   pub after_fits : length (area_after line (asked line) b area) ≤ 2048
   unfolding asked

@@ -357,6 +357,18 @@ mod tests {
         }
     }
 
+    #[test]
+    fn no_drawing_belongs_to_the_list_of_sets() {
+        let script = "watch on\ncodes\nsend 0\ncodes\n";
+        let answers = "watch 0\ncodes 0 276\nsend 0\npanel\nend\ncodes 0 276\n";
+        assert_eq!(difference(script, answers, answers), None);
+        let drawn = answers.replacen("276\n", "276\npanel\nend\n", 1);
+        assert_eq!(line(script, &drawn, answers), Some(2));
+        assert!(difference(script, &drawn, &drawn).is_some());
+        let last = format!("{answers}panel\nend\n");
+        assert!(difference(script, &last, &last).is_some());
+    }
+
     const SCRIPT: &str = "event 1\n\n# x\npanel\nx\nsend 0 # y\n";
 
     #[test]

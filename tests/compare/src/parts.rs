@@ -7,6 +7,7 @@ mod independent;
 mod knobs;
 mod language;
 mod panels;
+mod poster;
 pub mod random;
 mod readings;
 mod sets;
@@ -28,7 +29,7 @@ pub struct Part {
 const SAME: &str = "same answers";
 
 /// The drawings come last, so that all that two programs can differ in is seen before.
-pub const ALL: [Part; 12] = [
+pub const ALL: [Part; 13] = [
     Part {
         name: "bench sheet",
         found: SAME,
@@ -73,6 +74,11 @@ pub const ALL: [Part; 12] = [
         name: "starts",
         found: SAME,
         run: starts::run,
+    },
+    Part {
+        name: "poster",
+        found: SAME,
+        run: poster::run,
     },
     Part {
         name: "random lists",

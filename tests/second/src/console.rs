@@ -7,6 +7,7 @@ use crate::calls::{self, Display, NO_EVENT};
 use crate::float;
 use crate::frames::{self, Frame};
 use crate::names::Place;
+use crate::poster;
 use crate::script::{self, Bus, Command, Damage, Problem};
 
 /// The most bytes of a line, its end not counted.
@@ -117,6 +118,7 @@ fn carry_out(state: &mut State, command: Command, output: &mut impl Write) -> io
             writeln!(output, "watch 0")
         }
         Command::Help => write_help(output),
+        Command::Codes => write_codes(output),
         Command::Bus(bus) => carry_out_bus(state, bus, output),
         Command::Damage(damage) => {
             carry_out_damage(bench, damage);
@@ -251,6 +253,13 @@ fn write_help(output: &mut impl Write) -> io::Result<()> {
         writeln!(output, "{form}")?;
     }
     writeln!(output, "end")
+}
+
+/// The list is the same whatever the bench is.
+fn write_codes(output: &mut impl Write) -> io::Result<()> {
+    write!(output, "codes")?;
+    write_numbers(&poster::numbers(), output)?;
+    writeln!(output)
 }
 
 fn write_bench(bench: &Bench, output: &mut impl Write) -> io::Result<()> {

@@ -3,7 +3,6 @@
 use std::io::{self, Write};
 
 use crate::codes;
-#[cfg(test)]
 use crate::sets::ModeSet;
 
 /// A line for each code in rising order: code, lateral law, armed sum and
@@ -17,13 +16,11 @@ pub fn write(output: &mut impl Write) -> io::Result<()> {
 }
 
 /// One number for each code, in the same order.
-#[cfg(test)]
 pub fn numbers() -> Vec<i32> {
     codes::all().iter().map(|&set| number(set)).collect()
 }
 
 /// Laws and armed sum have a hexadecimal digit each.
-#[cfg(test)]
 fn number(set: ModeSet) -> i32 {
     (set.lateral_law() * 256 + set.vertical_law() * 16 + set.armed_sum()) as i32
 }

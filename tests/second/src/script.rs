@@ -29,6 +29,7 @@ pub enum Command {
     Help,
     Damage(Damage),
     Bus(Bus),
+    Codes,
 }
 
 impl Command {
@@ -41,7 +42,7 @@ impl Command {
             Command::PowerOn | Command::Start(_) | Command::Damage(_) => true,
             Command::Display(_) | Command::Pick(_) | Command::Bench => false,
             Command::Panel | Command::Watch(_) | Command::Help => false,
-            Command::Bus(_) => false,
+            Command::Bus(_) | Command::Codes => false,
         }
     }
 }
@@ -70,8 +71,8 @@ pub enum Damage {
 pub type Problem = &'static str;
 
 const NAME: Problem = "a command is event, press, signal, turn, knob, reading, send, refresh, \
-    display, pick, power-on, start, bench, panel, damage, watch, help, area, poke, write, read or \
-    bytes";
+    display, pick, power-on, start, bench, panel, damage, watch, help, area, poke, write, read, \
+    bytes or codes";
 const ALONE: Problem = "this command is one word alone";
 const EVENT: Problem = "event takes one number from 0 to 4294967295";
 const PRESS: Problem = "press takes one switch: ap-disconnect, ap, go-around, transfer, fd-left, \
@@ -112,7 +113,7 @@ const START: Problem = "here goes one start, a number from 0 to 1844674407370955
 const BYTES: Problem = "bytes are pairs of hexadecimal digits without anything between";
 
 /// The commands, for people who ask for help.
-pub const FORMS: [&str; 27] = [
+pub const FORMS: [&str; 28] = [
     "event WORD",
     "press SWITCH",
     "signal SIGNAL",
@@ -140,6 +141,7 @@ pub const FORMS: [&str; 27] = [
     "write SIDE START",
     "read START",
     "bytes",
+    "codes",
 ];
 
 /// The longest bus area.
@@ -197,6 +199,7 @@ fn command(name: &[u8], arguments: &[&[u8]]) -> Result<Command, Problem> {
         b"write" => write(arguments).map(Command::Bus),
         b"read" => one(arguments, start, START).map(|start| Command::Bus(Bus::Read(start))),
         b"bytes" => alone(arguments, Command::Bus(Bus::Bytes)),
+        b"codes" => alone(arguments, Command::Codes),
         _ => Err(NAME),
     }
 }
@@ -743,6 +746,7 @@ mod tests {
             "write left 0",
             "read 0",
             "bytes",
+            "codes",
         ] {
             assert!(!watched(line), "{line}");
         }
@@ -902,6 +906,29 @@ mod tests {
     }
 
     #[test]
+    fn codes_is_one_word_alone() {
+        assert_same(&["codes", "\tcodes\r# 1", "codes#1"], Command::Codes);
+        for line in [
+            "codes 1",
+            "codes 0",
+            "codes 107",
+            "codes left",
+            "codes codes",
+            "codes 1 2 3 4 5 6 7 8 9",
+            "codes\t1",
+            "code",
+            "codess",
+            "Codes",
+            "CODES",
+            "codes1",
+            "codes,",
+            "poster",
+        ] {
+            assert!(parse(line.as_bytes()).is_err(), "{line}");
+        }
+    }
+
+    #[test]
     fn a_start_names_any_signed_number() {
         for (words, speed) in [
             ("60", 60),
@@ -1053,6 +1080,8 @@ mod tests {
             ("write both 0", "left"),
             ("write 0 x", "18446744073709551615"),
             ("read x", "18446744073709551615"),
+            ("code", "codes"),
+            ("codes 1", "alone"),
         ] {
             let problem = parse(line.as_bytes()).unwrap_err();
             assert!(problem.contains(accepted), "{line}: {problem}");

@@ -80,6 +80,10 @@ pub returns-in-start : goal.returns-in-start
 unfolding command_by commands with_side
 returns-in-start c = rw (text_from_reads c.args.name.now (bytes "start") (omega arith) (search arith)) (search (rules, tests))
 
+pub returns-in-codes : goal.returns-in-codes
+unfolding command_by commands with_side
+returns-in-codes c = rw (text_from_reads c.args.name.now (bytes "codes") (omega arith) (search arith)) (search (rules, tests))
+
 pub returns-in-signal : goal.returns-in-signal
 unfolding command_by commands with_side
 returns-in-signal c = rw (text_from_reads c.args.name.now (bytes "signal") (omega arith) (search arith)) (search (rules, tests))

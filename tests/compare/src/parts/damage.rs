@@ -78,7 +78,8 @@ fn script(start: &[&str]) -> Script {
     script
 }
 
-fn damages() -> Vec<String> {
+/// What follows the word `damage`; where several belong together, `and` parts them.
+pub fn damages() -> Vec<String> {
     let mut damages: Vec<String> = Vec::new();
     damages.extend([0, 1, 2, 3, 127, 128, 254, 255].map(|side| format!("pf {side}")));
     damages.extend([0, 1].map(|on| format!("independent {on}")));

@@ -71,7 +71,7 @@ fn whole_scripts() -> Vec<Script> {
     scripts
 }
 
-const ENDS: [&[u8]; 40] = [
+const ENDS: [&[u8]; 43] = [
     b"",
     b"\n",
     b"\n\n\n",
@@ -112,6 +112,9 @@ const ENDS: [&[u8]; 40] = [
     b"area 3\nbytes",
     b"area 19\nwrite 0 0\nread 0",
     b"area 2\npoke 1 fF",
+    b"codes",
+    b"press hdg\ncodes\nbench\ncodes",
+    b"watch on\ncodes\ncodes 1\nsend 0\ncodes",
 ];
 
 /// The lines of a text, the last one without a newline if the text has none there.

@@ -455,7 +455,7 @@ fn is_watched(line: &str) -> bool {
     let name = line.split(' ').next();
     !matches!(
         name,
-        Some("display" | "pick" | "bench" | "area" | "poke" | "write" | "read" | "bytes")
+        Some("display" | "pick" | "bench" | "area" | "poke" | "write" | "read" | "bytes" | "codes")
     )
 }
 

@@ -146,7 +146,7 @@ struct Maker {
 type Make = fn(&mut Maker) -> String;
 
 /// Commands of every list, by weight.
-const CALM: [(usize, Make); 14] = [
+const CALM: [(usize, Make); 15] = [
     (400, Maker::event),
     (6, Maker::sequence),
     (140, Maker::turn),
@@ -160,7 +160,9 @@ const CALM: [(usize, Make); 14] = [
     (25, |maker| maker.bus.poke(&mut maker.rng)),
     (35, Maker::write),
     (40, |maker| maker.bus.read(&mut maker.rng)),
-    (20, |_| "bytes".to_string()),
+    (19, |_| "bytes".to_string()),
+    // Seldom, as the answer is long and always the same.
+    (1, |_| "codes".to_string()),
 ];
 
 /// How many of a hundred lines go on with a sequence that was begun.
@@ -411,7 +413,7 @@ impl Maker {
 }
 
 /// Each is answered by an error.
-const ERRORS: [&str; 43] = [
+const ERRORS: [&str; 44] = [
     "event",
     "event x",
     "event 4294967296",
@@ -455,6 +457,7 @@ const ERRORS: [&str; 43] = [
     "write left-inbox 0",
     "read -1",
     "bytes 0",
+    "codes 0",
 ];
 
 #[cfg(test)]
@@ -496,6 +499,15 @@ mod tests {
             ] {
                 assert!(counts.get(name) > Some(&250), "{name} {counts:?}");
             }
+        }
+    }
+
+    #[test]
+    fn the_list_of_all_sets_comes_seldom() {
+        for number in 0..2 {
+            let script = list(1, number, 100_000);
+            let count = counts(&script).get("codes").copied().unwrap_or(0);
+            assert!((40..=200).contains(&count), "{count}");
         }
     }
 

@@ -50,6 +50,34 @@ impl Told {
     }
 }
 
+/// That each answer is one to its command: by its name, an error by its line, a bench by its length.
+#[cfg(test)]
+pub fn assert_fitting(cases: &[Case]) {
+    for case in cases {
+        for (index, (command, answer)) in case.iter().enumerate() {
+            if answer.starts_with("error") {
+                assert_eq!(*answer, format!("error {}: x", index + 1));
+                continue;
+            }
+            let name = answer.split_whitespace().next();
+            assert_eq!(name, Some(answered(command)), "{command}");
+            if name == Some("bench") {
+                assert_eq!(answer.split(' ').count(), 1 + 4 + 4 + 6 + 6 + 4 * 12);
+            }
+        }
+    }
+}
+
+/// What the words for people are answered as.
+#[cfg(test)]
+fn answered(command: &str) -> &str {
+    match command.split_whitespace().next() {
+        Some("press" | "signal") => "event",
+        Some("knob") => "turn",
+        name => name.unwrap_or(""),
+    }
+}
+
 const CASES: [Case; 12] = [
     CASE_1, CASE_2, CASE_3, CASE_4, CASE_5, CASE_6, CASE_7, CASE_8, CASE_9, CASE_10, CASE_11,
     CASE_12,

@@ -3,7 +3,7 @@
 //! of the papers, so that two programs which err in the same way are noticed.
 
 mod forms;
-mod olds;
+pub mod olds;
 mod refused;
 mod speeds;
 mod worked;

@@ -121,6 +121,16 @@ pub const KNOBS: [&str; 4] = ["wheel", "altitude", "speed", "heading"];
 pub const SIDES: [&str; 2] = ["left", "right"];
 pub const BOXES: [&str; 4] = ["left", "right", "left-inbox", "right-inbox"];
 
+/// From power-on to independent operation, in which both sides fly an approach.
+pub const INDEPENDENT_APPROACH: &[&str] = &[
+    "press appr",
+    "signal lappr-captured",
+    "signal vappr-captured",
+    "send left",
+    "refresh right",
+    "press independent",
+];
+
 /// The event word with only the bit of that event.
 pub fn word(event: u32) -> u32 {
     1 << event

@@ -1,8 +1,10 @@
-//! The poster of all sets (document 02, 2026-07): its lines and its numbers.
+//! The poster of all sets (document 02, 2026-07): its lines, its numbers, and
+//! the console's command.
 
 use std::collections::BTreeSet;
 use std::ffi::OsString;
 
+use super::scripts::{answers, is_error};
 use crate::bench::Bench;
 use crate::calls;
 use crate::codes;
@@ -208,6 +210,120 @@ fn some_numbers_by_hand() {
     let first = [0, 276, 292, 308, 320, 336, 352, 388, 277, 293, 309, 321];
     assert_eq!(numbers[..12], first);
     assert_eq!(numbers[107], 1_422);
+}
+
+// ---- The console ----
+
+fn codes_line() -> String {
+    let mut line = "codes".to_string();
+    for number in poster::numbers() {
+        line += &format!(" {number}");
+    }
+    line
+}
+
+#[test]
+fn codes_is_answered_by_one_line() {
+    let line = codes_line();
+    assert_eq!(line.split(' ').count(), 109);
+    assert!(line.starts_with("codes 0 276 292 308 320 336 352 388 277 "));
+    assert!(line.ends_with(" 1386 1422"));
+    for script in [
+        "codes",
+        "codes\n",
+        "\t codes\r\n",
+        "codes # 1\n",
+        "\n#\ncodes#\n",
+    ] {
+        assert_eq!(
+            answers(script.as_bytes()),
+            format!("{line}\n"),
+            "{script:?}"
+        );
+    }
+    assert_eq!(answers(b"codes\ncodes\n"), format!("{line}\n{line}\n"));
+}
+
+/// Benches of all sorts: running ones, ones in independent operation and
+/// damaged ones, with and without something in the area.
+const BENCHES: [&str; 9] = [
+    "",
+    "start 300",
+    "start 59",
+    "press ap\npress transfer\nsignal overspeed-begins\nturn 0 1\nturn 3 4\nreading roll 2.5\n\
+     send 0\nsend 1\nrefresh 0\nrefresh 1",
+    "press appr\nsignal lappr-captured\nsignal vappr-captured\nsend left\nrefresh right\n\
+     press independent",
+    "damage pf 2\ndamage left ias 59\ndamage right-inbox set 1 1 1 1",
+    "damage reading airspeed nan\ndamage whole airspeed 7",
+    "damage left set 3 1 7 1\ndamage independent 1",
+    "area 21\npoke 0 ff\nwrite left 1",
+];
+
+#[test]
+fn codes_says_and_leaves_the_same_on_every_bench() {
+    for bench in BENCHES {
+        let kept = answers(format!("{bench}\nbench\nbytes\n").as_bytes());
+        let script = format!("{bench}\nbench\ncodes\nbench\nbytes\n");
+        let output = answers(script.as_bytes());
+        let mut lines: Vec<&str> = kept.lines().collect();
+        let (codes, at) = (codes_line(), lines.len() - 2);
+        let again = lines[at];
+        lines.splice(at + 1..at + 1, [codes.as_str(), again]);
+        assert_eq!(output.lines().collect::<Vec<_>>(), lines, "{bench}");
+    }
+}
+
+#[test]
+fn calls_go_on_as_if_nobody_had_asked() {
+    let calls = [
+        "press appr",
+        "signal lappr-captured",
+        "turn 2 7",
+        "display 0",
+        "send 0",
+        "refresh 1",
+        "pick 1",
+        "damage pf 2",
+        "event 1",
+        "start 90",
+        "bench",
+    ];
+    let plain = answers(calls.join("\n").as_bytes());
+    let mixed = answers(calls.join("\ncodes\n").as_bytes());
+    let others: Vec<&str> = mixed.lines().filter(|line| *line != codes_line()).collect();
+    assert_eq!(others, plain.lines().collect::<Vec<_>>());
+    assert_eq!(mixed.lines().count(), 2 * calls.len() - 1);
+}
+
+#[test]
+fn a_word_too_many_or_another_word_is_an_error() {
+    let before = "press hdg\ndamage right ias 300";
+    let kept = answers(format!("{before}\nbench\n").as_bytes());
+    for line in [
+        "codes 1",
+        "codes codes",
+        "codes 0 0",
+        "Codes",
+        "CODES",
+        "code",
+        "codess",
+    ] {
+        let output = answers(format!("{before}\n{line}\nbench\n").as_bytes());
+        let lines: Vec<&str> = output.lines().collect();
+        assert!(is_error(lines[2], 3), "{line}");
+        assert_eq!(Some(lines[3]), kept.lines().last(), "{line}");
+    }
+}
+
+#[test]
+fn no_drawing_follows_codes() {
+    let script = b"watch on\ncodes\nsend 0\ncodes\ndamage pf 2\ncodes\nwatch off\ncodes\n";
+    let (line, drawing) = (codes_line(), "panel\nend");
+    let expected = format!(
+        "watch 0\n{line}\nsend 0\n{drawing}\n{line}\ndamage 0\n{drawing}\n{line}\nwatch 0\n{line}\n"
+    );
+    assert_eq!(answers(script), expected);
 }
 
 // ---- The arguments of the program ----

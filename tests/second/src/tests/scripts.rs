@@ -364,6 +364,8 @@ fn no_drawing_follows_what_is_not_watched() {
         "write 0 0",
         "read 0",
         "bytes",
+        "codes",
+        "codes 1",
     ] {
         let alone = answers(format!("\n{line}\n").as_bytes());
         let watched = answers(format!("watch on\n{line}\n").as_bytes());
@@ -401,6 +403,7 @@ fn help_is_a_block() {
         "write SIDE START",
         "read START",
         "bytes",
+        "codes",
     ] {
         assert!(lines.contains(&form), "{form}");
     }

@@ -220,7 +220,7 @@ fn any_references(script: &mut Script, side: &str, rng: &mut Rng) {
 // ---- The area itself ----
 
 /// What leaves the area as it is: every other command, and errors.
-const OTHERS: [&str; 42] = [
+const OTHERS: [&str; 44] = [
     "power-on",
     "event 16384",
     "event 0",
@@ -262,6 +262,8 @@ const OTHERS: [&str; 42] = [
     "start 90",
     "start 401",
     "start",
+    "codes",
+    "codes 0",
     "power-on",
 ];
 

@@ -1,7 +1,7 @@
 //! Lines that are commands, and lines that look like commands.
 
 /// One of each form, as they should be.
-pub const VALID: [&str; 61] = [
+pub const VALID: [&str; 62] = [
     "event 16384",
     "event 1048576",
     "event 0",
@@ -64,6 +64,7 @@ pub const VALID: [&str; 61] = [
     "write 2 0",
     "read 18446744073709551615",
     "bytes",
+    "codes",
 ];
 
 /// What parts words, alone and in company.
@@ -134,7 +135,7 @@ fn capitalized(line: &str) -> String {
     first.to_uppercase() + rest
 }
 
-const ODD: [&str; 129] = [
+const ODD: [&str; 134] = [
     "",
     "   ",
     "#",
@@ -264,6 +265,11 @@ const ODD: [&str; 129] = [
     "watch on on",
     "unwatch",
     "help help",
+    "code",
+    "codes1",
+    "codes 107",
+    "codes left",
+    "poster",
 ];
 
 #[cfg(test)]
@@ -276,7 +282,7 @@ mod tests {
         for name in [
             "event", "turn", "reading", "send", "refresh", "display", "pick", "power-on", "bench",
             "panel", "damage", "press", "signal", "knob", "watch", "help", "area", "poke", "write",
-            "read", "bytes", "start",
+            "read", "bytes", "start", "codes",
         ] {
             let found = VALID
                 .iter()

@@ -6,7 +6,7 @@ use std::collections::BTreeSet;
 use crate::parts::words::{BOXES, KINDS, KNOBS, REFERENCES, SIDES, SIGNALS, SWITCHES};
 
 /// The places; each takes a word where the braces stand.
-const PLACES: [&str; 41] = [
+const PLACES: [&str; 42] = [
     "{}",
     "event {}",
     "press {}",
@@ -48,12 +48,13 @@ const PLACES: [&str; 41] = [
     "write 0 {}",
     "read {}",
     "bytes {}",
+    "codes {}",
 ];
 
-const COMMANDS: [&str; 22] = [
+const COMMANDS: [&str; 23] = [
     "event", "turn", "reading", "send", "refresh", "display", "pick", "power-on", "bench", "panel",
     "damage", "press", "signal", "knob", "watch", "help", "area", "poke", "write", "read", "bytes",
-    "start",
+    "start", "codes",
 ];
 
 const OTHERS: [&str; 11] = [
@@ -115,6 +116,7 @@ fn homes() -> Vec<(&'static str, Vec<&'static str>)> {
         ("{} 0 0", vec!["write"]),
         ("{} 0", vec!["read"]),
         ("{}", vec!["bytes"]),
+        ("{}", vec!["codes"]),
     ];
     for place in [
         "send {}",
@@ -207,6 +209,10 @@ mod tests {
             "read right",
             "poke 0 off",
             "bytes bytes",
+            "codes",
+            "codes left",
+            "codes 14",
+            "bench codes",
         ] {
             assert!(all.contains(line), "{line}");
         }
@@ -275,6 +281,9 @@ mod tests {
             "writ 0 0",
             "READ 0",
             "bytess",
+            "codess",
+            "code",
+            "Codes",
         ] {
             assert!(all.contains(&line.to_string()), "{line:?}");
         }

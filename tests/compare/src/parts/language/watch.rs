@@ -7,7 +7,7 @@ use crate::script::Script;
 const STEPS: usize = 1_500;
 
 /// Lines that are refused, that are errors, and that have no answer.
-const OTHERS: [&str; 51] = [
+const OTHERS: [&str; 52] = [
     "event 2097152",
     "event 4294967295",
     "turn 4 0",
@@ -56,6 +56,7 @@ const OTHERS: [&str; 51] = [
     "write 0",
     "read x",
     "bytes 0",
+    "codes 0",
     "",
     "# watch on",
     "\t\r",

@@ -26,7 +26,8 @@ const SPEEDS: [i32; 18] = [
     600,
 ];
 
-const OLDS: [Case; 14] = [
+/// Benches of every sort, from power-on.
+pub const OLDS: [Case; 14] = [
     FRESH,
     STARTED,
     REFUSED,

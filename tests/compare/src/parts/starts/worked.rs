@@ -142,30 +142,10 @@ const AREA: Case = &[
 #[cfg(test)]
 mod tests {
     use super::*;
-
-    /// What the shorter words for an event are answered as.
-    fn answered(command: &str) -> &str {
-        match command.split(' ').next() {
-            Some("press" | "signal") => "event",
-            Some("knob") => "turn",
-            name => name.unwrap_or(""),
-        }
-    }
+    use crate::parts::sheet::assert_fitting;
 
     #[test]
     fn answers_are_those_of_their_commands() {
-        for case in CASES {
-            for (index, (command, answer)) in case.iter().enumerate() {
-                if answer.starts_with("error") {
-                    assert_eq!(*answer, format!("error {}: x", index + 1));
-                } else {
-                    assert_eq!(answer.split(' ').next(), Some(answered(command)));
-                }
-                if *command == "bench" {
-                    let words = answer.split(' ').count();
-                    assert_eq!(words, 1 + 4 + 4 + 6 + 6 + 4 * 12);
-                }
-            }
-        }
+        assert_fitting(&CASES);
     }
 }

@@ -4,7 +4,7 @@
 use std::collections::BTreeSet;
 
 use super::{floats, Asked};
-use crate::parts::words::{pattern, Ranged, KINDS};
+use crate::parts::words::{pattern, Ranged, INDEPENDENT_APPROACH, KINDS};
 
 /// What the damage is done to: all is Off, or both sides fly an approach in independent operation.
 /// With each comes what engages the mode that loads a kind, and on which sides.
@@ -26,14 +26,7 @@ const STARTS: [Start; 2] = [
         sides: &[0],
     },
     Start {
-        lines: &[
-            "press appr",
-            "signal lappr-captured",
-            "signal vappr-captured",
-            "send left",
-            "refresh right",
-            "press independent",
-        ],
+        lines: INDEPENDENT_APPROACH,
         entry: |kind| match kind {
             "altitude" => "press alt",
             "airspeed" => "signal overspeed-begins",

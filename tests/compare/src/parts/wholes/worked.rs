@@ -200,35 +200,10 @@ const LINES: Case = &[
 #[cfg(test)]
 mod tests {
     use super::*;
+    use crate::parts::sheet::assert_fitting;
 
     #[test]
     fn answers_are_those_of_their_commands() {
-        for (command, answer) in CASES.into_iter().flatten() {
-            let (name, told) = (command.split(' ').next(), answer.split(' ').next());
-            let named = match told {
-                Some("event") => matches!(name, Some("event" | "press")),
-                Some("error") => true,
-                told => told == name,
-            };
-            assert!(named, "{command}");
-            if name == Some("bench") {
-                assert_eq!(
-                    answer.split_whitespace().count(),
-                    1 + 4 + 4 + 6 + 6 + 4 * 12
-                );
-                assert!(!answer.contains("  "), "{answer}");
-            }
-        }
-    }
-
-    #[test]
-    fn errors_have_the_numbers_of_their_lines() {
-        for case in CASES {
-            for (index, (_, answer)) in case.iter().enumerate() {
-                if answer.starts_with("error") {
-                    assert_eq!(*answer, format!("error {}: x", index + 1));
-                }
-            }
-        }
+        assert_fitting(&CASES);
     }
 }
