@@ -26,19 +26,19 @@ returns-in_ok-side_at-in-pick c = rw (text_from_reads c.args.name.now (bytes "pi
 
 pub returns-in-poke : goal.returns-in-poke
 unfolding command_by commands with_side
-returns-in-poke c = rw (text_from_reads c.args.name.now (bytes "poke") (omega arith) (search arith)) (search (rules, tests))
+returns-in-poke c = rw (text_from_reads c.args.name.now (bytes "poke") (omega arith) (search arith)) c.poke.ensures
 
 pub returns-in-turn : goal.returns-in-turn
 unfolding command_by commands with_side
-returns-in-turn c = rw (text_from_reads c.args.name.now (bytes "turn") (omega arith) (search arith)) (search (rules, tests))
+returns-in-turn c = rw (text_from_reads c.args.name.now (bytes "turn") (omega arith) (search arith)) c.turn.ensures
 
 pub returns-in-knob : goal.returns-in-knob
 unfolding command_by commands with_side
-returns-in-knob c = rw (text_from_reads c.args.name.now (bytes "knob") (omega arith) (search arith)) (search (rules, tests))
+returns-in-knob c = rw (text_from_reads c.args.name.now (bytes "knob") (omega arith) (search arith)) c.clicks.ensures
 
 pub returns-in-help : goal.returns-in-help
 unfolding command_by commands with_side
-returns-in-help c = rw (text_from_reads c.args.name.now (bytes "help") (omega arith) (search arith)) (search (rules, tests))
+returns-in-help c = rw (text_from_reads c.args.name.now (bytes "help") (omega arith) (search arith)) c.ends_at-in-help.ensures
 
 pub returns-in-area : goal.returns-in-area
 unfolding command_by commands with_side
@@ -46,7 +46,7 @@ returns-in-area c = rw (text_from_reads c.args.name.now (bytes "area") (omega ar
 
 pub returns-in-read : goal.returns-in-read
 unfolding command_by commands with_side
-returns-in-read c = rw (text_from_reads c.args.name.now (bytes "read") (omega arith) (search arith)) (search (rules, tests))
+returns-in-read c = rw (text_from_reads c.args.name.now (bytes "read") (omega arith) (search arith)) c.read.ensures
 
 pub returns-in-event : goal.returns-in-event
 unfolding command_by commands with_side
@@ -58,31 +58,31 @@ returns-in-press c = rw (text_from_reads c.args.name.now (bytes "press") (omega 
 
 pub returns-in-panel : goal.returns-in-panel
 unfolding command_by commands with_side
-returns-in-panel c = rw (text_from_reads c.args.name.now (bytes "panel") (omega arith) (search arith)) (search (rules, tests))
+returns-in-panel c = rw (text_from_reads c.args.name.now (bytes "panel") (omega arith) (search arith)) c.ends_at-in-panel.ensures
 
 pub returns-in-bench : goal.returns-in-bench
 unfolding command_by commands with_side
-returns-in-bench c = rw (text_from_reads c.args.name.now (bytes "bench") (omega arith) (search arith)) (search (rules, tests))
+returns-in-bench c = rw (text_from_reads c.args.name.now (bytes "bench") (omega arith) (search arith)) c.ends_at-in-bench.ensures
 
 pub returns-in-bytes : goal.returns-in-bytes
 unfolding command_by commands with_side
-returns-in-bytes c = rw (text_from_reads c.args.name.now (bytes "bytes") (omega arith) (search arith)) (search (rules, tests))
+returns-in-bytes c = rw (text_from_reads c.args.name.now (bytes "bytes") (omega arith) (search arith)) c.ends_at-in-bytes.ensures
 
 pub returns-in-watch : goal.returns-in-watch
 unfolding command_by commands with_side
-returns-in-watch c = rw (text_from_reads c.args.name.now (bytes "watch") (omega arith) (search arith)) (search (rules, tests))
+returns-in-watch c = rw (text_from_reads c.args.name.now (bytes "watch") (omega arith) (search arith)) c.watch.ensures
 
 pub returns-in-write : goal.returns-in-write
 unfolding command_by commands with_side
-returns-in-write c = rw (text_from_reads c.args.name.now (bytes "write") (omega arith) (search arith)) (search (rules, tests))
+returns-in-write c = rw (text_from_reads c.args.name.now (bytes "write") (omega arith) (search arith)) c.write.ensures
 
 pub returns-in-start : goal.returns-in-start
 unfolding command_by commands with_side
-returns-in-start c = rw (text_from_reads c.args.name.now (bytes "start") (omega arith) (search arith)) (search (rules, tests))
+returns-in-start c = rw (text_from_reads c.args.name.now (bytes "start") (omega arith) (search arith)) c.start.ensures
 
 pub returns-in-codes : goal.returns-in-codes
 unfolding command_by commands with_side
-returns-in-codes c = rw (text_from_reads c.args.name.now (bytes "codes") (omega arith) (search arith)) (search (rules, tests))
+returns-in-codes c = rw (text_from_reads c.args.name.now (bytes "codes") (omega arith) (search arith)) c.ends_at-in-codes.ensures
 
 pub returns-in-signal : goal.returns-in-signal
 unfolding command_by commands with_side
@@ -90,7 +90,7 @@ returns-in-signal c = rw (text_from_reads c.args.name.now (bytes "signal") (omeg
 
 pub returns-in-damage : goal.returns-in-damage
 unfolding command_by commands with_side
-returns-in-damage c = rw (text_from_reads c.args.name.now (bytes "damage") (omega arith) (search arith)) (search (rules, tests))
+returns-in-damage c = rw (text_from_reads c.args.name.now (bytes "damage") (omega arith) (search arith)) c.damage.ensures
 
 pub returns-in_ok-side_at-in-refresh : goal.returns-in_ok-side_at-in-refresh
 unfolding command_by commands with_side
@@ -106,4 +106,4 @@ returns-in_ok-side_at-in-display c = rw (text_from_reads c.args.name.now (bytes 
 
 pub returns-in-112 : goal.returns-in-112
 unfolding command_by commands with_side
-returns-in-112 c = rw (text_from_reads c.args.name.now (bytes "power-on") (omega arith) (search arith)) (search (rules, tests))
+returns-in-112 c = rw (text_from_reads c.args.name.now (bytes "power-on") (omega arith) (search arith)) c.ends_at-in-112.ensures
