@@ -5,7 +5,7 @@ use std::io::Write;
 
 /// The most bytes of a command, the newline not counted. A longer line is an error whatever it
 /// holds, so a long comment is answered too.
-const LONGEST: usize = 255;
+pub const LONGEST: usize = 255;
 
 #[derive(Default)]
 pub struct Script {

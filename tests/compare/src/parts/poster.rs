@@ -14,6 +14,7 @@ use super::sheet::{self, Told};
 use crate::compare;
 use crate::gate::{Gate, Stop};
 use crate::script::Script;
+use worked::CODES;
 
 pub fn run(gate: &mut Gate) -> Result<(), Stop> {
     for case in worked::CASES {
@@ -48,7 +49,7 @@ fn scripts() -> [Script; 3] {
 
 /// Whether each answer to `codes` is the list, and the benches on both sides of one are the same.
 fn kept(output: &[u8]) -> Result<(), String> {
-    let line = format!("{}\n", list::line());
+    let line = format!("{CODES}\n");
     let answers = compare::blocks(output);
     let is_codes = |answer: &[u8]| answer.starts_with(b"codes");
     let is_wrong = |answer: &&&[u8]| is_codes(answer) && **answer != line.as_bytes();
@@ -72,13 +73,11 @@ fn kept(output: &[u8]) -> Result<(), String> {
 #[cfg(test)]
 mod tests {
     use super::*;
+    use crate::parts::sheet::assert_answered;
 
     #[test]
     fn every_command_has_its_answer() {
-        for told in told() {
-            let answers = compare::blocks(told.paper.as_bytes());
-            assert_eq!(answers.len(), told.script.commands());
-        }
+        assert_answered(&told());
     }
 
     #[test]
@@ -101,8 +100,8 @@ mod tests {
 
     #[test]
     fn a_wrong_list_and_a_changed_bench_are_noticed() {
-        let line = list::line();
-        let good = format!("bench 0\n{line}\nbench 0\nsend 0\nbench 1\n{line}\nsend 0\nbench 2\n");
+        let good =
+            format!("bench 0\n{CODES}\nbench 0\nsend 0\nbench 1\n{CODES}\nsend 0\nbench 2\n");
         assert_eq!(kept(good.as_bytes()), Ok(()));
         for (from, to) in [
             ("codes 0 276", "codes 0 277"),

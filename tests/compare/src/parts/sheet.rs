@@ -2,8 +2,34 @@
 //! power-on, with the answers that the paper gives. A display also has what the paper says of
 //! power-on, references and lamps.
 
+#[cfg(test)]
+use crate::compare;
 use crate::gate::{Gate, Stop};
+#[cfg(test)]
+use crate::script;
 use crate::script::Script;
+
+/// An answer to `bench` of a start, with the airspeed's float and the speed. Sides and inboxes are
+/// alike.
+macro_rules! started {
+    ($airspeed:literal, $speed:literal) => {
+        concat!(
+            "bench 0 0 0 0 0 0 0 0 0x0000000000000000 ",
+            $airspeed,
+            " 0x0000000000000000 0x0000000000000000 0x0000000000000000 0x0000000000000000 0 ",
+            $speed,
+            " 0 0 0 0",
+            started!($speed),
+            started!($speed),
+            started!($speed),
+            started!($speed)
+        )
+    };
+    ($speed:literal) => {
+        concat!(" 0 0 0 0 0 0 0 0 0 ", $speed, " 0 0")
+    };
+}
+pub(crate) use started;
 
 /// Commands and their answers.
 pub type Case = &'static [(&'static str, &'static str)];
@@ -30,7 +56,7 @@ pub struct Told {
 }
 
 impl Told {
-    pub fn say(&mut self, command: &str, answer: &str) {
+    pub fn say(&mut self, command: impl AsRef<[u8]>, answer: &str) {
         self.script.line(command);
         self.paper.push_str(answer);
         self.paper.push('\n');
@@ -44,7 +70,7 @@ impl Told {
 
     /// A line that is an error. Every line so far has to have an answer, as its number is counted
     /// from them; the text of the error is free.
-    pub fn error(&mut self, line: &str) {
+    pub fn error(&mut self, line: impl AsRef<[u8]>) {
         let number = self.script.commands() + 1;
         self.say(line, &format!("error {number}: x"));
     }
@@ -59,10 +85,12 @@ pub fn assert_fitting(cases: &[Case]) {
                 assert_eq!(*answer, format!("error {}: x", index + 1));
                 continue;
             }
-            let name = answer.split_whitespace().next();
+            let name = answer.split([' ', '\n']).next();
             assert_eq!(name, Some(answered(command)), "{command}");
             if name == Some("bench") {
-                assert_eq!(answer.split(' ').count(), 1 + 4 + 4 + 6 + 6 + 4 * 12);
+                let words = answer.split_whitespace().count();
+                assert_eq!(words, 1 + 4 + 4 + 6 + 6 + 4 * 12);
+                assert!(!answer.contains("  "), "{answer}");
             }
         }
     }
@@ -76,6 +104,32 @@ fn answered(command: &str) -> &str {
         Some("knob") => "turn",
         name => name.unwrap_or(""),
     }
+}
+
+/// That every command of these scripts has an answer.
+#[cfg(test)]
+pub fn assert_answered(all: &[Told]) {
+    for told in all {
+        let answers = compare::blocks(told.paper.as_bytes());
+        assert_eq!(answers.len(), told.script.commands());
+    }
+}
+
+/// The lines of a script that are answered by an error, which has to have their number. Every line
+/// has an answer of one line.
+#[cfg(test)]
+pub fn errors(told: &Told) -> Vec<Vec<u8>> {
+    let lines = script::lines(told.script.text());
+    let answers: Vec<&str> = told.paper.lines().collect();
+    assert_eq!(lines.len(), answers.len());
+    let mut errors = Vec::new();
+    for (index, (line, answer)) in lines.iter().zip(answers).enumerate() {
+        if answer.starts_with("error") {
+            assert_eq!(answer, format!("error {}: x", index + 1));
+            errors.push(line.strip_suffix(b"\n").unwrap_or(line).to_vec());
+        }
+    }
+    errors
 }
 
 const CASES: [Case; 12] = [

@@ -71,7 +71,7 @@ fn display(modes: &str, ias: i32, lamps: u32) -> String {
 #[cfg(test)]
 mod tests {
     use super::*;
-    use crate::compare;
+    use crate::parts::sheet::assert_answered;
 
     #[test]
     fn the_answers_to_a_start_are_those_of_the_papers() {
@@ -93,10 +93,7 @@ mod tests {
 
     #[test]
     fn every_command_has_its_answer() {
-        for told in all() {
-            let answers = compare::blocks(told.paper.as_bytes());
-            assert_eq!(answers.len(), told.script.commands());
-        }
+        assert_answered(&all());
     }
 
     #[test]

@@ -1,16 +1,13 @@
 //! Lines of the area's commands that are errors, and lines that nearly are.
 
 use super::frame;
-use crate::script::Script;
+use crate::script::{Script, LONGEST};
 
 /// The area that each line finds.
 const AREA: usize = 24;
 
 /// The area for pokes that fill a line.
 const LONG_AREA: usize = 130;
-
-/// The most bytes of a line.
-const LONGEST: usize = 255;
 
 pub fn all() -> Script {
     let mut script = Script::default();

@@ -1,11 +1,8 @@
 //! How `codes` may be written, and what looks like it and is an error.
 
-use super::list;
+use super::worked::CODES;
 use crate::parts::sheet::Told;
-use crate::script::SEPARATORS;
-
-/// The most bytes of a line.
-const LONGEST: usize = 255;
+use crate::script::{LONGEST, SEPARATORS};
 
 const ACCEPTED: [&str; 20] = [
     "codes",
@@ -118,26 +115,26 @@ fn begun() -> Told {
 }
 
 pub fn accepted() -> Told {
-    let (mut told, line) = (begun(), list::line());
+    let mut told = begun();
     for form in ACCEPTED {
-        told.say(form, &line);
+        told.say(form, CODES);
         say_kept(&mut told);
     }
     for silent in SILENT {
-        told.say("codes", &line);
+        told.say("codes", CODES);
         told.script.line(silent);
         say_kept(&mut told);
-        told.say("codes", &line);
+        told.say("codes", CODES);
     }
     told
 }
 
 pub fn wrong() -> Told {
-    let (mut told, line) = (begun(), list::line());
+    let mut told = begun();
     for wrong in WRONG {
         told.error(wrong);
         say_kept(&mut told);
-        told.say("codes", &line);
+        told.say("codes", CODES);
     }
     told
 }
@@ -145,7 +142,7 @@ pub fn wrong() -> Told {
 /// Every byte but the newline behind the word, ahead of it, in it and after it. A `#` ahead leaves
 /// no command, and is among the silent lines.
 pub fn with_every_byte() -> Told {
-    let (mut told, line) = (begun(), list::line());
+    let mut told = begun();
     for byte in (0..=u8::MAX).filter(|&byte| byte != b'\n') {
         let (parts, comment) = (SEPARATORS.contains(&byte), byte == b'#');
         say_bytes(&mut told, &[b"codes", &[byte]], parts || comment);
@@ -154,22 +151,19 @@ pub fn with_every_byte() -> Told {
         if !comment {
             say_bytes(&mut told, &[&[byte], b"codes"], parts);
         }
-        told.say("codes", &line);
+        told.say("codes", CODES);
     }
     told
 }
 
 /// A line that need not be text, answered by the list or by an error.
 fn say_bytes(told: &mut Told, pieces: &[&[u8]], accepted: bool) {
-    let number = told.script.commands() + 1;
-    told.script.line(pieces.concat());
-    let answer = if accepted {
-        list::line()
+    let line = pieces.concat();
+    if accepted {
+        told.say(line, CODES);
     } else {
-        format!("error {number}: x")
-    };
-    told.paper.push_str(&answer);
-    told.paper.push('\n');
+        told.error(line);
+    }
 }
 
 /// Lines about the longest that is read; those that are too long are errors whatever they hold.
@@ -196,8 +190,8 @@ pub fn of_lengths() -> Told {
             say_bytes(&mut told, &[start, &middle, end], accepted);
             say_kept(&mut told);
         }
-        told.say("codes", &list::line());
-        told.say("codes", &list::line());
+        told.say("codes", CODES);
+        told.say("codes", CODES);
     }
     told
 }
@@ -205,6 +199,7 @@ pub fn of_lengths() -> Told {
 #[cfg(test)]
 mod tests {
     use super::*;
+    use crate::parts::sheet;
     use crate::script::{self, is_answered};
     use std::collections::BTreeSet;
 
@@ -222,15 +217,12 @@ mod tests {
 
     #[test]
     fn errors_have_the_numbers_of_their_lines() {
-        for told in [wrong(), with_every_byte(), of_lengths()] {
-            let lines = script::lines(told.script.text());
-            let answers: Vec<&str> = told.paper.lines().collect();
-            assert_eq!(lines.len(), answers.len());
-            for (index, answer) in answers.iter().enumerate() {
-                if answer.starts_with("error") {
-                    assert_eq!(*answer, format!("error {}: x", index + 1));
-                }
-            }
+        assert_eq!(
+            sheet::errors(&wrong()),
+            WRONG.map(|line| line.as_bytes().to_vec())
+        );
+        for told in [with_every_byte(), of_lengths()] {
+            assert!(!sheet::errors(&told).is_empty());
         }
     }
 

@@ -40,20 +40,20 @@ pub fn armed_sum(set: Set) -> u32 {
     u32::from(set.armed) + 4 * u32::from(altsel) + 8 * u32::from(set.vappr)
 }
 
-fn number(set: Set) -> u32 {
-    256 * u32::from(set.lateral) + 16 * u32::from(set.vertical) + armed_sum(set)
-}
-
-/// The answer to `codes`.
-pub fn line() -> String {
-    let numbers = sets().into_iter().map(|set| format!(" {}", number(set)));
-    format!("codes{}", numbers.collect::<String>())
-}
-
 #[cfg(test)]
 mod tests {
     use super::*;
     use crate::parts::poster::worked;
+
+    fn number(set: Set) -> u32 {
+        256 * u32::from(set.lateral) + 16 * u32::from(set.vertical) + armed_sum(set)
+    }
+
+    /// The answer to `codes`.
+    fn line() -> String {
+        let numbers = sets().into_iter().map(|set| format!(" {}", number(set)));
+        format!("codes{}", numbers.collect::<String>())
+    }
 
     #[test]
     fn the_rules_give_the_list_that_was_worked_out_by_hand() {

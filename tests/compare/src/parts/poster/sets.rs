@@ -3,6 +3,7 @@
 //! refused.
 
 use super::list;
+use super::worked::CODES;
 use crate::parts::sheet::Told;
 use crate::parts::words::{self, Set, SIDES};
 
@@ -37,7 +38,7 @@ fn say_coherent(told: &mut Told, side: usize, set: Set, code: usize) {
         &format!("display {side}"),
         &format!("display 0 0 {lateral} {vertical} {armed} 0 0 0 0 120 0 0 {lamps}"),
     );
-    told.say("codes", &list::line());
+    told.say("codes", CODES);
     let pick = format!("pick 0 {lateral} {vertical}");
     told.say(&format!("pick {side}"), &pick);
     told.say(&format!("write {side} 0"), "write 0");
@@ -50,7 +51,7 @@ fn say_coherent(told: &mut Told, side: usize, set: Set, code: usize) {
 fn say_other(told: &mut Told, side: usize) {
     let refused = format!("display 1{}", " 0".repeat(12));
     told.say(&format!("display {side}"), &refused);
-    told.say("codes", &list::line());
+    told.say("codes", CODES);
     told.say(&format!("write {side} 0"), "write 1");
 }
 

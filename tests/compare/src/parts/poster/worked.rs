@@ -1,6 +1,6 @@
 //! Cases worked out by hand from the papers, with the answers that they give.
 
-use crate::parts::sheet::Case;
+use crate::parts::sheet::{started, Case};
 
 /// The whole list: Off, then a row for each lateral law with each armed lateral mode. A row goes
 /// through PITCH, VS, FLC, ALT, ALTSEL in capture and in track, VAPPR where it can be engaged, and
@@ -22,38 +22,17 @@ pub const CODES: &str = "codes 0 \
 
 pub const CASES: [Case; 6] = [FRESH, APPROACH, DAMAGED, WATCHED, AREA, WRONG];
 
-/// An answer to `bench` of a start, with the airspeed's float and the speed.
-macro_rules! bench {
-    ($airspeed:literal, $speed:literal) => {
-        concat!(
-            "bench 0 0 0 0 0 0 0 0 0x0000000000000000 ",
-            $airspeed,
-            " 0x0000000000000000 0x0000000000000000 0x0000000000000000 0x0000000000000000 0 ",
-            $speed,
-            " 0 0 0 0 0 0 0 0 0 0 0 0 0 ",
-            $speed,
-            " 0 0 0 0 0 0 0 0 0 0 0 ",
-            $speed,
-            " 0 0 0 0 0 0 0 0 0 0 0 ",
-            $speed,
-            " 0 0 0 0 0 0 0 0 0 0 0 ",
-            $speed,
-            " 0 0"
-        )
-    };
-}
-
 /// The list is there from the start on and leaves the bench that was started.
 const FRESH: Case = &[
     ("codes", CODES),
-    ("bench", bench!("0x405e000000000000", "120")),
+    ("bench", started!("0x405e000000000000", "120")),
     ("start 90", "start 0"),
     ("codes", CODES),
     ("codes", CODES),
-    ("bench", bench!("0x4056800000000000", "90")),
+    ("bench", started!("0x4056800000000000", "90")),
     ("start 401", "start 10"),
     ("codes", CODES),
-    ("bench", bench!("0x405e000000000000", "120")),
+    ("bench", started!("0x405e000000000000", "120")),
     ("power-on", "power-on 0"),
     ("codes", CODES),
 ];
@@ -104,7 +83,7 @@ const DAMAGED: Case = &[
     ("pick 0", "pick 1 0 0"),
     ("damage whole airspeed 120", "damage 0"),
     ("codes", CODES),
-    ("bench", bench!("0x405e000000000000", "120")),
+    ("bench", started!("0x405e000000000000", "120")),
 ];
 
 /// It cannot change the bench, so that no drawing follows it.
@@ -161,7 +140,7 @@ const WRONG: Case = &[
     ("poster", "error 11: x"),
     ("\tcodes\r", CODES),
     ("codes # 1", CODES),
-    ("bench", bench!("0x405e000000000000", "120")),
+    ("bench", started!("0x405e000000000000", "120")),
 ];
 
 #[cfg(test)]

@@ -142,24 +142,13 @@ fn wrong() -> Vec<String> {
 #[cfg(test)]
 mod tests {
     use super::*;
+    use crate::parts::sheet;
     use crate::parts::starts::SPEEDS;
-    use crate::script;
 
     #[test]
     fn errors_have_the_numbers_of_their_lines() {
-        let told = all();
-        let lines = script::lines(told.script.text());
-        let answers: Vec<&str> = told.paper.lines().collect();
-        assert_eq!(lines.len(), answers.len());
-        let mut errors = Vec::new();
-        for (index, answer) in answers.iter().enumerate() {
-            if answer.starts_with("error") {
-                assert_eq!(*answer, format!("error {}: x", index + 1));
-                let line = String::from_utf8_lossy(lines[index]);
-                errors.push(line.trim_end_matches('\n').to_string());
-            }
-        }
-        assert_eq!(errors, wrong());
+        let wrong: Vec<Vec<u8>> = wrong().into_iter().map(String::into_bytes).collect();
+        assert_eq!(sheet::errors(&all()), wrong);
     }
 
     #[test]

@@ -1,65 +1,41 @@
 //! Cases worked out by hand from the papers, with the answers that they give.
 
-use crate::parts::sheet::Case;
+use crate::parts::sheet::{started, Case};
 
 pub const CASES: [Case; 6] = [DEFAULT, NAMED, SHEET, BOTH, WATCHED, AREA];
 
-/// A side or an inbox of a start.
-macro_rules! channel {
-    ($speed:literal) => {
-        concat!(" 0 0 0 0 0 0 0 0 0 ", $speed, " 0 0")
-    };
-}
-
-/// An answer to `bench` of a start, with the airspeed's float and the speed.
-macro_rules! bench {
-    ($airspeed:literal, $speed:literal) => {
-        concat!(
-            "bench 0 0 0 0 0 0 0 0 0x0000000000000000 ",
-            $airspeed,
-            " 0x0000000000000000 0x0000000000000000 0x0000000000000000 0x0000000000000000 0 ",
-            $speed,
-            " 0 0 0 0",
-            channel!($speed),
-            channel!($speed),
-            channel!($speed),
-            channel!($speed)
-        )
-    };
-}
-
 /// The console begins with the default bench, and `power-on` gives it again.
 const DEFAULT: Case = &[
-    ("bench", bench!("0x405e000000000000", "120")),
+    ("bench", started!("0x405e000000000000", "120")),
     ("display 0", "display 0 0 0 0 0 0 0 0 0 120 0 0 128"),
     ("press flc", "event 0 18"),
     ("display 0", "display 0 1 1 3 4 0 0 0 0 120 0 0 144"),
     ("start 90", "start 0"),
     ("power-on", "power-on 0"),
-    ("bench", bench!("0x405e000000000000", "120")),
+    ("bench", started!("0x405e000000000000", "120")),
 ];
 
 /// Both ends of the range and what is beside them; a refused start gives the default bench and
 /// keeps nothing of the one before.
 const NAMED: Case = &[
     ("start 60", "start 0"),
-    ("bench", bench!("0x404e000000000000", "60")),
+    ("bench", started!("0x404e000000000000", "60")),
     ("start 59", "start 10"),
-    ("bench", bench!("0x405e000000000000", "120")),
+    ("bench", started!("0x405e000000000000", "120")),
     ("start 400", "start 0"),
-    ("bench", bench!("0x4079000000000000", "400")),
+    ("bench", started!("0x4079000000000000", "400")),
     ("start 401", "start 10"),
-    ("bench", bench!("0x405e000000000000", "120")),
+    ("bench", started!("0x405e000000000000", "120")),
     ("start 399", "start 0"),
-    ("bench", bench!("0x4078f00000000000", "399")),
+    ("bench", started!("0x4078f00000000000", "399")),
     ("start -90", "start 10"),
-    ("bench", bench!("0x405e000000000000", "120")),
+    ("bench", started!("0x405e000000000000", "120")),
     ("start 90", "start 0"),
-    ("bench", bench!("0x4056800000000000", "90")),
+    ("bench", started!("0x4056800000000000", "90")),
     ("start 2147483647", "start 10"),
     ("start -2147483648", "start 10"),
     ("start 0", "start 10"),
-    ("bench", bench!("0x405e000000000000", "120")),
+    ("bench", started!("0x405e000000000000", "120")),
 ];
 
 /// An old exercise sheet that counts on 90: cases 9, 11 and 12 of the bench sheet. Right has sent
@@ -98,7 +74,7 @@ const BOTH: Case = &[
     ("display left", "display 0 1 4 3 4 0 0 0 0 250 0 0 148"),
     ("display right", "display 0 1 4 3 4 0 0 0 0 250 0 0 148"),
     ("start 401", "start 10"),
-    ("bench", bench!("0x405e000000000000", "120")),
+    ("bench", started!("0x405e000000000000", "120")),
 ];
 
 /// A start can change the bench, so that a drawing follows it, refused or not; none follows an
@@ -111,13 +87,13 @@ const WATCHED: Case = &[
     ("start 60 61", "error 5: x"),
     ("damage pf 2", "damage 0\npanel\nend"),
     ("start 400", "start 0\npanel\nend"),
-    ("bench", bench!("0x4079000000000000", "400")),
+    ("bench", started!("0x4079000000000000", "400")),
     ("damage pf 2", "damage 0\npanel\nend"),
     ("start 401", "start 10\npanel\nend"),
     ("watch off", "watch 0"),
     ("start 60", "start 0"),
     ("start 401", "start 10"),
-    ("bench", bench!("0x405e000000000000", "120")),
+    ("bench", started!("0x405e000000000000", "120")),
 ];
 
 /// The bus area is no part of the bench and stays; what is then written has the new speed.
