@@ -4,7 +4,8 @@
 use std::collections::BTreeSet;
 use std::ffi::OsString;
 
-use super::scripts::{answers, is_error};
+use super::scripts::{answers, assert_errors};
+use super::starts::OLD;
 use crate::bench::Bench;
 use crate::calls;
 use crate::codes;
@@ -244,25 +245,16 @@ fn codes_is_answered_by_one_line() {
     assert_eq!(answers(b"codes\ncodes\n"), format!("{line}\n{line}\n"));
 }
 
-/// Benches of all sorts: running ones, ones in independent operation and
-/// damaged ones, with and without something in the area.
-const BENCHES: [&str; 9] = [
-    "",
-    "start 300",
-    "start 59",
-    "press ap\npress transfer\nsignal overspeed-begins\nturn 0 1\nturn 3 4\nreading roll 2.5\n\
-     send 0\nsend 1\nrefresh 0\nrefresh 1",
-    "press appr\nsignal lappr-captured\nsignal vappr-captured\nsend left\nrefresh right\n\
-     press independent",
-    "damage pf 2\ndamage left ias 59\ndamage right-inbox set 1 1 1 1",
-    "damage reading airspeed nan\ndamage whole airspeed 7",
+/// Benches that `OLD` has not: one damaged in a side's set and in independent
+/// operation, and one with something in the area.
+const BENCHES: [&str; 2] = [
     "damage left set 3 1 7 1\ndamage independent 1",
     "area 21\npoke 0 ff\nwrite left 1",
 ];
 
 #[test]
 fn codes_says_and_leaves_the_same_on_every_bench() {
-    for bench in BENCHES {
+    for bench in OLD.into_iter().chain(BENCHES) {
         let kept = answers(format!("{bench}\nbench\nbytes\n").as_bytes());
         let script = format!("{bench}\nbench\ncodes\nbench\nbytes\n");
         let output = answers(script.as_bytes());
@@ -298,9 +290,7 @@ fn calls_go_on_as_if_nobody_had_asked() {
 
 #[test]
 fn a_word_too_many_or_another_word_is_an_error() {
-    let before = "press hdg\ndamage right ias 300";
-    let kept = answers(format!("{before}\nbench\n").as_bytes());
-    for line in [
+    let wrong = [
         "codes 1",
         "codes codes",
         "codes 0 0",
@@ -308,12 +298,8 @@ fn a_word_too_many_or_another_word_is_an_error() {
         "CODES",
         "code",
         "codess",
-    ] {
-        let output = answers(format!("{before}\n{line}\nbench\n").as_bytes());
-        let lines: Vec<&str> = output.lines().collect();
-        assert!(is_error(lines[2], 3), "{line}");
-        assert_eq!(Some(lines[3]), kept.lines().last(), "{line}");
-    }
+    ];
+    assert_errors("press hdg\ndamage right ias 300", &wrong);
 }
 
 #[test]

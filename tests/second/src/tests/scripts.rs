@@ -215,6 +215,25 @@ pub fn is_error(answer: &str, number: u32) -> bool {
     answer.starts_with(&format!("error {number}: "))
 }
 
+/// Asserts that each of the wrong lines, right after `before`, is answered by an
+/// error with its number and leaves the bench as it was.
+pub fn assert_errors(before: &str, wrong: &[&str]) {
+    let commands: Vec<&str> = before.split('\n').collect();
+    // One answer line each, so that the error stands right after theirs.
+    for count in 1..=commands.len() {
+        let output = answers(commands[..count].join("\n").as_bytes());
+        assert_eq!(output.lines().count(), count, "{before}");
+    }
+    let kept = answers(format!("{before}\nbench\n").as_bytes());
+    for line in wrong {
+        let output = answers(format!("{before}\n{line}\nbench\n").as_bytes());
+        let mut lines: Vec<&str> = output.lines().collect();
+        let error = lines.remove(commands.len());
+        assert!(is_error(error, commands.len() as u32 + 1), "{line}");
+        assert_eq!(lines, kept.lines().collect::<Vec<_>>(), "{line}");
+    }
+}
+
 #[test]
 fn a_bad_line_is_answered_and_the_script_goes_on() {
     let output = answers(b"event 1\n\nevent x\n\xff\xfe\n# \xff\nevent 0\nturn 0 256\n");

@@ -2,7 +2,7 @@
 //! nothing of an older one is left in it, and the console's command.
 
 use super::refusals::assert_unsound;
-use super::scripts::{answers, is_error};
+use super::scripts::{answers, assert_errors, is_error};
 use super::words::*;
 use super::{after, events, modes};
 use crate::bench::{Bench, Channel, Kind, Reference, References, Refusal};
@@ -227,9 +227,9 @@ fn the_console_begins_with_the_default_bench_and_power_on_gives_it_again() {
     assert_eq!(answers(script), expected);
 }
 
-/// Scripts that leave something to be seen everywhere: running benches, started
-/// ones and damaged ones.
-const OLD: [&str; 8] = [
+/// Scripts that leave something to be seen everywhere, for commands that do the
+/// same on any bench: on running ones, started ones and damaged ones.
+pub const OLD: [&str; 8] = [
     "",
     "start 300",
     "start 59",
@@ -262,9 +262,7 @@ fn nothing_is_left_of_an_older_bench() {
 
 #[test]
 fn a_wrong_line_starts_nothing() {
-    let before = "start 300\npress ap\nknob speed 5";
-    let kept = answers(format!("{before}\nbench\n").as_bytes());
-    for line in [
+    let wrong = [
         "start",
         "start x",
         "start 60.0",
@@ -276,12 +274,8 @@ fn a_wrong_line_starts_nothing() {
         "start 4294967416",
         "Start 60",
         "starts 60",
-    ] {
-        let output = answers(format!("{before}\n{line}\nbench\n").as_bytes());
-        let lines: Vec<&str> = output.lines().collect();
-        assert!(is_error(lines[3], 4), "{line}");
-        assert_eq!(Some(lines[4]), kept.lines().last(), "{line}");
-    }
+    ];
+    assert_errors("start 300\npress ap\nknob speed 5", &wrong);
 }
 
 #[test]
