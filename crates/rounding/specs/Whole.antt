@@ -1,6 +1,6 @@
 -- The whole value of a float: the integer nearest to its exact value; of two that are equally near, the even one. Document 01, 'Readings'.
 -- `specs/Laws.antt` states that these definitions say so.
-use Rattle.std.specs.Prelude.{ℕ, ◌*◌, Bool, true, false, ◌&&◌, cond, ℤ, pos, negsuc, neg_ℤ, Float, Result, Ok, Err}
+use Rattle.std.specs.Prelude.{ℕ, ◌*◌, Bool, true, false, ◌&&◌, cond, eqb, ℤ, pos, negsuc, neg_ℤ, Float, Result, Ok, Err}
 use Rattle.std.specs.Int.Signed.{le_z}
 use Rattle.std.specs.Float.{nan, inf, fin}
 use Rattle.std.specs.Float.Ieee.{up, down}
@@ -30,3 +30,15 @@ unfoldable pub whole_of : Float → Result ℤ NoWhole
 whole_of nan = Err NotFinite
 whole_of (inf s) = Err NotFinite
 whole_of (fin s m e) = in_answer (signed_of s (magnitude_of m e))
+
+-- x and y are the same number.
+abbrev pub same : ℤ → ℤ → Bool
+same (pos x) (pos y) = eqb x y
+same (pos x) (negsuc y) = false
+same (negsuc x) (pos y) = false
+same (negsuc x) (negsuc y) = eqb x y
+
+-- z is the whole value that was answered. A float that has none has no such z.
+abbrev pub is_whole : ℤ → Result ℤ NoWhole → Bool
+is_whole z (Err n) = false
+is_whole z (Ok y) = same y z

@@ -5,7 +5,7 @@ ghost use Rattle.std.specs.Prelude.{◌≡◌, ◌^◌, ◌<◌, ◌≤◌};
 ghost use Rattle.std.specs.Float.Ieee.{of_bits};
 ghost use Rattle.std.specs.Float.{binary64};
 ghost use Rattle.std.specs.Float.Ieee.Nearest.{closest};
-ghost use Rattle.rounding.specs.Whole.{signed_of, in_answer, whole_of};
+ghost use Rattle.rounding.specs.Whole.{signed_of, in_answer, whole_of, is_whole};
 
 // Why a float has no whole value.
 #[derive(Clone, Copy)]
@@ -88,4 +88,15 @@ pub fn whole_value(x: f64) -> Result<i32, NoWhole>
     } else {
         whole_of_bits(x.to_bits())
     }
+}
+
+// 3 * 2^51. Floats between 2^52 and 2^53 lie 1 apart, and so a sum that lies there is rounded to an integer, at a tie to
+// the even one; this number is even, so that the sum is even where the integer nearest to the other float is.
+const UNITS: f64 = 6755399441055744.0;
+
+// Whether z is the whole value of x. Both sums are exact or rounded to an integer, and no digit is dropped here.
+pub fn is_whole_value(x: f64, z: i32) -> bool
+    ensures { result ≡ is_whole z (whole_of x) }
+{
+    x + UNITS == f64::from(z) + UNITS
 }
