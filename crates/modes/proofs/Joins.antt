@@ -1,16 +1,17 @@
 -- What the code computes of a set and the paper's rules agree, each computed over all representable sets. Assumes nothing.
 use mathlib.Core.Path.{◌≡◌}
 use mathlib.Core.Bool.{Bool, true, false, not, ◌&&◌, ◌||◌}
-use Prim.Native.Nat.{ℕ, ◌≤◌}
+use Prim.Native.Nat.{ℕ, ◌≤◌, ◌/◌, ◌^◌}
 use lib.Dec.{T, eqb, ltb}
-use lib.Bits.{bit_or}
+use lib.Bits.{bit_and, bit_or}
 use native.Mathlib.Omega.{arith}
+use Rattle.modes.specs.declared.sets.TheConstants.{COHERENT}
 use Rattle.modes.specs.declared.Modes.{Modes}
 use Rattle.modes.specs.declared.ModeSet.{ModeSet}
 use Rattle.modes.specs.Every.{every_set, armed_number, same_flag}
 use Rattle.modes.specs.Sets.{Mode, HDG, NAV, LAPPR, VS, FLC, ALT, ALTSEL, VAPPR, arms_nav, arms_lappr, engaged, armed, cleared, once, coherent, engaged_in, approach_engaged, is_off}
 use Rattle.modes.specs.Numbers.{lateral_law, vertical_law, worth, armed_sum, mode_lamps}
-use Rattle.modes.specs.Private.{is_nav, is_lappr, is_vappr, armed_agrees, altsel_number, lateral_lamp, armed_lamp, vertical_lamp}
+use Rattle.modes.specs.Private.{is_nav, is_lappr, bit_of, altsel_number, lateral_lamp, armed_lamp, vertical_lamp}
 use Rattle.modes.proofs.Every.{agree_test, agree_number, agree_sets}
 
 -- ---- tests
@@ -23,12 +24,13 @@ pub lappr_selected : (m : Modes) → (is_lappr m.lateral || arms_lappr m.armed) 
 unfolding cleared armed engaged
 lappr_selected = agree_test (λ m. is_lappr m.lateral || arms_lappr m.armed) (λ m. not (cleared LAPPR m)) tt
 
-abbrev agrees : Modes → Bool
-agrees m = armed_agrees m.armed (is_nav m.lateral) (is_lappr m.lateral) (is_vappr m.vertical) m.vappr_armed
+-- the bit that the code looks up
+abbrev looked_up : Modes → Bool
+looked_up m = eqb (bit_and (COHERENT / 2 ^ bit_of m) 1) 1
 
-pub coherent_agrees : (m : Modes) → agrees m ≡ coherent m
+pub coherent_agrees : (m : Modes) → looked_up m ≡ coherent m
 unfolding coherent once cleared armed engaged
-coherent_agrees = agree_test agrees coherent tt
+coherent_agrees = agree_test looked_up coherent tt
 
 -- ---- numbers
 

@@ -1,11 +1,13 @@
 -- What the private functions of this crate compute, by their own cases. This is no part of the promise: the contracts of the public functions cite Sets, Numbers
 -- and Events, and computing over all sets shows that these agree with them.
-use Rattle.std.specs.Prelude.{Bool, true, false, not, ◌&&◌, ◌||◌, ℕ}
+use Rattle.std.specs.Prelude.{Bool, true, false, ℕ, ◌+◌, ◌*◌}
 use Rattle.modes.specs.declared.Lateral.{Lateral}
 use Rattle.modes.specs.declared.Vertical.{Vertical}
 use Rattle.modes.specs.declared.ArmedLateral.{ArmedLateral}
+use Rattle.modes.specs.declared.Modes.{Modes}
+use Rattle.modes.specs.Every.{armed_number, flag_number}
 
--- ---- the modes that coherence asks for
+-- ---- single modes
 
 abbrev pub is_nav : Lateral → Bool
 is_nav Lateral.Roll = false
@@ -31,16 +33,18 @@ is_vappr Vertical.AltselTrack = false
 is_vappr Vertical.Vappr = true
 is_vappr Vertical.Vga = false
 
--- ---- coherence, by the armed lateral mode
+-- ---- coherence: the bit that stands for a set in the code's constant
 
--- beside LAPPR engaged VAPPR is engaged, armed or cleared, and beside another mode it is cleared
-abbrev pub vappr_agrees : Bool → Bool → Bool → Bool
-vappr_agrees lappr vappr vapprArmed = (lappr && not (vappr && vapprArmed)) || not (vappr || vapprArmed)
+-- the engaged lateral mode's place in the order of the laws
+abbrev pub lateral_place : Lateral → ℕ
+lateral_place Lateral.Roll = 0
+lateral_place Lateral.Hdg = 1
+lateral_place Lateral.Nav = 2
+lateral_place Lateral.Lappr = 3
+lateral_place Lateral.Lga = 4
 
-abbrev pub armed_agrees : ArmedLateral → Bool → Bool → Bool → Bool → Bool
-armed_agrees ArmedLateral.Neither nav lappr vappr vapprArmed = vappr_agrees lappr vappr vapprArmed
-armed_agrees ArmedLateral.Nav nav lappr vappr vapprArmed = not nav && vappr_agrees lappr vappr vapprArmed
-armed_agrees ArmedLateral.Lappr nav lappr vappr vapprArmed = not lappr && not vappr && vapprArmed
+abbrev pub bit_of : Modes → ℕ
+bit_of m = lateral_place m.lateral * 12 + armed_number m.armed * 4 + (flag_number (is_vappr m.vertical) * 2 + flag_number m.vappr_armed)
 
 -- ---- the parts of the armed sum and of the lamps, which the code joins by their bits
 

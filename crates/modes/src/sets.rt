@@ -1,7 +1,7 @@
 // What a mode is in a set, and which sets are coherent.
 ghost use Rattle.std.specs.Prelude.{◌≡◌};
 ghost use Rattle.modes.specs.Sets.{HDG, NAV, LAPPR, VS, FLC, ALT, basic_modes, coherent, coherent_set, engaged_in, selected_in, approach_engaged};
-ghost use Rattle.modes.specs.Private.{is_nav, is_lappr, is_vappr, vappr_agrees, armed_agrees};
+ghost use Rattle.modes.specs.Private.{is_nav, is_lappr, is_vappr, bit_of};
 
 use crate::numbers::{arms_lappr, arms_nav, lateral_law, vertical_law};
 use crate::{ArmedLateral, Lateral, ModeSet, Modes, Vertical};
@@ -36,23 +36,17 @@ fn is_vappr(v: Vertical) -> bool
     matches!(v, Vertical::Vappr)
 }
 
-// Beside LAPPR engaged VAPPR is engaged, armed or cleared; beside another mode it is cleared.
-fn vappr_agrees(lappr: bool, vappr: bool, vappr_armed: bool) -> bool
-    ensures { result ≡ vappr_agrees lappr vappr vappr_armed }
-{
-    (lappr & !(vappr & vappr_armed)) | !(vappr | vappr_armed)
-}
+// Which sets are coherent, a bit for each. Three digits each for LGA engaged, then LAPPR, NAV, HDG and ROLL: one for LAPPR armed,
+// then NAV armed and neither. In a digit 1 is VAPPR cleared, 2 armed, 4 engaged, 8 both.
+const COHERENT: u64 = 0x211_077_201_211_211;
 
-// Whether the engaged modes and VAPPR's arming go with the armed lateral mode.
-fn armed_agrees(a: ArmedLateral, nav: bool, lappr: bool, vappr: bool, vappr_armed: bool) -> bool
-    ensures { result ≡ armed_agrees a nav lappr vappr vappr_armed }
+// The bit of COHERENT that stands for an On set.
+fn bit_of(m: Modes) -> u32
+    ensures { result ≡ bit_of m }
 {
-    let beside = vappr_agrees(lappr, vappr, vappr_armed);
-    match a {
-        ArmedLateral::Neither => beside,
-        ArmedLateral::Nav => !nav & beside,
-        ArmedLateral::Lappr => !lappr & !vappr & vappr_armed,
-    }
+    m.lateral as u32 * 12
+        + m.armed as u32 * 4
+        + (u32::from(is_vappr(m.vertical)) * 2 + u32::from(m.vappr_armed))
 }
 
 // Whether an On set is coherent.
@@ -60,13 +54,7 @@ fn armed_agrees(a: ArmedLateral, nav: bool, lappr: bool, vappr: bool, vappr_arme
 pub fn is_coherent(m: Modes) -> bool
     ensures { result ≡ coherent m }
 {
-    armed_agrees(
-        m.armed,
-        is_nav(m.lateral),
-        is_lappr(m.lateral),
-        is_vappr(m.vertical),
-        m.vappr_armed,
-    )
+    (COHERENT >> bit_of(m)) & 1 == 1
 }
 
 // Whether a set is coherent; Off is.
