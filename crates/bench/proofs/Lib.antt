@@ -4,3 +4,4 @@ pub mod SoundParts
 pub mod Independent
 pub mod WholeLaws
 pub mod StartLaws
+pub mod Kept

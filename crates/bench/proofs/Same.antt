@@ -3,7 +3,7 @@ use mathlib.Core.Path.{◌≡◌, refl, ap}
 use mathlib.Core.Bool.{true, false≢true}
 use lib.IntN.{ℤ, pos, negsuc}
 use borrow.Author.Tests.{eqb-true, eq-eqb}
-use Rattle.bench.specs.Readings.{same}
+use Rattle.rounding.specs.Whole.{same}
 
 pub same_true : (x y : ℤ) → same x y ≡ true → x ≡ y
 same_true (pos x) (pos y) h = ap pos (eqb-true x y h)

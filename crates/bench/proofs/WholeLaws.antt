@@ -8,14 +8,14 @@ use lib.IntN.{ℤ, pos, negsuc}
 use lib.Ieee.{Float, of_bits}
 use Rattle.std.specs.Prelude.{Result, Ok, Err}
 use Rattle.rounding.specs.declared.NoWhole.{NoWhole}
-use Rattle.rounding.specs.Whole.{magnitude_of, signed_of, is_i32, in_answer, whole_of}
+use Rattle.rounding.specs.Whole.{magnitude_of, signed_of, is_i32, in_answer, whole_of, same}
 use Rattle.rounding.proofs.Laws.{magnitude_nearest, magnitude_only}
 use Rattle.bench.specs.declared.Reading.{Reading}
 use Rattle.bench.specs.declared.Readings.{Readings}
 use Rattle.bench.specs.declared.Wholes.{Wholes}
 use Rattle.bench.specs.declared.Bench.{Bench}
 use Rattle.bench.specs.Ranges.{within, reading_range, reference_range}
-use Rattle.bench.specs.Readings.{float_of, exchanged, wrapped, of_kind, whole_reading, judged, refusal_of, number_of, whole_number, same, wholes_of}
+use Rattle.bench.specs.Readings.{float_of, exchanged, wrapped, of_kind, whole_reading, judged, refusal_of, number_of, whole_number, wholes_of}
 use Rattle.bench.specs.Sound.{valid, kept, readings_sound, sound}
 use Rattle.bench.specs.Wholes.{Nearest, WholeInRange, ReadingLaws, ReadingExamples}
 use Rattle.bench.proofs.Same.{same_true, same_self}

@@ -9,3 +9,4 @@ pub mod Sound
 pub mod Laws
 pub mod Wholes
 pub mod Starts
+pub mod Private

@@ -1,5 +1,5 @@
 -- Readings. Document 01, 'Readings', and the air data feed's refusals 5 and 6; document 02, 2026-01 and 2026-05.
-use Rattle.std.specs.Prelude.{Bool, false, cond, ℕ, eqb, ℤ, pos, negsuc, Float, Result, Ok, Err}
+use Rattle.std.specs.Prelude.{cond, ℕ, eqb, ℤ, pos, negsuc, Float, Result, Ok, Err}
 use Rattle.rounding.specs.declared.NoWhole.{NoWhole}
 use Rattle.rounding.specs.Whole.{whole_of}
 use Rattle.bench.specs.declared.Reading.{Reading}
@@ -80,13 +80,6 @@ kind_of (Reading.Heading x) = 5
 -- the whole values with the one of this kind replaced (document 02, 2026-05)
 unfoldable pub stored_whole : Reading → Wholes → Wholes
 stored_whole r k = with_whole (kind_of r) (whole_number r) k
-
--- x and y are the same number
-abbrev pub same : ℤ → ℤ → Bool
-same (pos x) (pos y) = eqb x y
-same (pos x) (negsuc y) = false
-same (negsuc x) (pos y) = false
-same (negsuc x) (negsuc y) = eqb x y
 
 -- the whole values of six floats, rounded afresh
 unfoldable pub wholes_of : Readings → Wholes

@@ -1,5 +1,6 @@
 -- Sound benches: those that refusal 1 does not name. Document 01, 'Who can be turned away'; document 02 adds independent operation (2026-03) and whole values (2026-05).
 use Rattle.std.specs.Prelude.{Bool, ◌&&◌, ℕ, eqb, leb, ℤ}
+use Rattle.rounding.specs.Whole.{same}
 use Rattle.modes.specs.Sets.{coherent_set}
 use Rattle.bench.specs.declared.References.{References}
 use Rattle.bench.specs.declared.Channel.{Channel}
@@ -9,7 +10,7 @@ use Rattle.bench.specs.declared.Reading.{Reading}
 use Rattle.bench.specs.declared.Bench.{Bench}
 use Rattle.bench.specs.Parts.{reference, box}
 use Rattle.bench.specs.Ranges.{within, reference_range}
-use Rattle.bench.specs.Readings.{refusal_of, whole_number, same}
+use Rattle.bench.specs.Readings.{refusal_of, whole_number}
 use Rattle.bench.specs.Independent.{independent_sound}
 
 -- the reference at a place is within its range

@@ -8,7 +8,7 @@ use crate::answers::Refusal;
 use crate::ranges::{Range, is_within};
 use rounding::NoWhole;
 
-fn float_of(r: Reading) -> f64
+pub(crate) fn float_of(r: Reading) -> f64
     ensures { result ≡ float_of r }
 {
     match r {

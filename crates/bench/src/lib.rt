@@ -8,12 +8,13 @@ pub mod feed;
 pub mod parts;
 pub mod ranges;
 
-ghost use Rattle.std.specs.Prelude.{◌≡◌, ◌&&◌, eqb};
+ghost use Rattle.std.specs.Prelude.{◌≡◌};
 ghost use Rattle.bench.specs.Holds.{start_channel, start_readings, start_wholes, bench_at, power_on, started, as_started};
 ghost use Rattle.bench.specs.Sides.{acts, other_side};
 ghost use Rattle.bench.specs.Independent.{both_approach, independent_sound};
-ghost use Rattle.bench.specs.Readings.{whole_reading, judged, same, whole_number};
-ghost use Rattle.bench.specs.Sound.{references_sound, channel_sound, readings_sound, sound};
+ghost use Rattle.bench.specs.Private.{is_wrapped, reads_as};
+ghost use Rattle.bench.specs.Ranges.{reading_range};
+ghost use Rattle.bench.specs.Sound.{references_sound, channel_sound, kept, readings_sound, sound};
 
 use answers::{Answer, Refusal};
 use modes::ModeSet;
@@ -257,47 +258,86 @@ pub fn references_sound(r: References) -> bool
 }
 
 #[tactic(auto, unfolding(crate::specs::Sound::channel_sound))]
-fn box_sound(c: Channel) -> bool
-    ensures { result ≡ channel_sound c }
+fn box_sound(c: &Channel) -> bool
+    ensures { result ≡ channel_sound c.now }
 {
     modes::sets::set_is_coherent(c.set) && references_sound(c.references)
 }
 
-// Whether a reading, whose kind has this range, would be accepted, and its whole value is this number.
-#[tactic(auto, unfolding(crate::specs::Readings::whole_number))]
+// Whether a number stands for another integer nearest to a reading: 0 for north, and -180 for inverted.
+fn is_wrapped(r: Reading, number: i32) -> bool
+    ensures { result ≡ is_wrapped r number }
+{
+    match (r, number) {
+        (Reading::Roll(x), -180) => rounding::is_whole_value(x, 180),
+        (Reading::Heading(x), 0) => rounding::is_whole_value(x, 360),
+        _ => false,
+    }
+}
+
+// Whether a number is the whole value of a reading, if it lies within the range of the reading's kind.
+fn reads_as(r: Reading, number: i32) -> bool
+    ensures { result ≡ reads_as r number }
+{
+    rounding::is_whole_value(feed::float_of(r), number) || is_wrapped(r, number)
+}
+
+// Whether a reading, whose kind has this range, would be accepted, and this number is its whole value. Nothing is rounded:
+// the range is judged on the number, and then the float by the number.
+#[tactic(auto, using(crate::proofs::Kept::kept_within, crate::proofs::Kept::kept_beyond))]
 fn is_kept(range: Range, r: Reading, number: i32) -> bool
-    ensures { result ≡ (eqb (judged range (whole_reading r)) 0 && same (whole_number r) number) }
+    requires { range ≡ reading_range r }
+    ensures { result ≡ kept r number }
 {
-    feed::judge(range, feed::whole_reading(r)) == Ok(number)
+    ranges::is_within(range, number) && reads_as(r, number)
 }
 
-#[tactic(auto, unfolding(crate::specs::Sound::readings_sound, crate::specs::Readings::refusal_of))]
-fn readings_sound(w: Readings, k: Wholes) -> bool
-    ensures { result ≡ readings_sound w k }
+// Whether each reading is kept with its whole value. Joined by `&` the six take a twentieth more instructions a call.
+#[tactic(auto, unfolding(crate::specs::Sound::readings_sound))]
+fn readings_sound(w: &Readings, k: &Wholes) -> bool
+    ensures { result ≡ readings_sound w.now k.now }
 {
-    // Stays: `&` over the six. With `&&` the check did not close `returns-then-is_kept-5` and `returns-else-is_kept-5`.
-    is_kept(ranges::ALTITUDE, Reading::Altitude(w.altitude), k.altitude)
-        & is_kept(ranges::AIRSPEED, Reading::Airspeed(w.airspeed), k.airspeed)
-        & is_kept(
-            ranges::VERTICAL_SPEED,
-            Reading::VerticalSpeed(w.vertical_speed),
-            k.vertical_speed,
-        )
-        & is_kept(ranges::ROLL, Reading::Roll(w.roll), k.roll)
-        & is_kept(ranges::PITCH, Reading::Pitch(w.pitch), k.pitch)
-        & is_kept(ranges::HEADING, Reading::Heading(w.heading), k.heading)
+    if !is_kept(ranges::ALTITUDE, Reading::Altitude(w.altitude), k.altitude) {
+        return false;
+    }
+    if !is_kept(ranges::AIRSPEED, Reading::Airspeed(w.airspeed), k.airspeed) {
+        return false;
+    }
+    if !is_kept(
+        ranges::VERTICAL_SPEED,
+        Reading::VerticalSpeed(w.vertical_speed),
+        k.vertical_speed,
+    ) {
+        return false;
+    }
+    if !is_kept(ranges::ROLL, Reading::Roll(w.roll), k.roll) {
+        return false;
+    }
+    if !is_kept(ranges::PITCH, Reading::Pitch(w.pitch), k.pitch) {
+        return false;
+    }
+    is_kept(ranges::HEADING, Reading::Heading(w.heading), k.heading)
 }
 
-// Whether no condition of refusal 1 holds.
-#[tactic(auto, unfolding(crate::specs::Sound::sound))]
+impl Bench {
+    // Whether no condition of refusal 1 holds. It only looks at the bench, so that no call copies one to judge it.
+    #[tactic(auto, unfolding(crate::specs::Sound::sound))]
+    pub fn is_sound(&self) -> bool
+        ensures { result ≡ sound self.now }
+    {
+        self.shared.pf <= 1
+            && box_sound(&self.left)
+            && box_sound(&self.right)
+            && box_sound(&self.left_inbox)
+            && box_sound(&self.right_inbox)
+            && readings_sound(&self.readings, &self.wholes)
+            && independent_sound(*self)
+    }
+}
+
+// The same of a bench that is handed over.
 pub fn is_sound(b: Bench) -> bool
     ensures { result ≡ sound b }
 {
-    b.shared.pf <= 1
-        && box_sound(b.left)
-        && box_sound(b.right)
-        && box_sound(b.left_inbox)
-        && box_sound(b.right_inbox)
-        && readings_sound(b.readings, b.wholes)
-        && independent_sound(b)
+    b.is_sound()
 }

@@ -69,21 +69,26 @@ pub fn box_of(b: Bench, number: u32) -> Channel
     }
 }
 
-// The bench with another channel in a box; past box 3 there is none to replace.
+// Puts a channel into a box; past box 3 there is none to replace.
 #[tactic(auto, unfolding(crate::specs::Parts::with_box))]
+pub fn put_box(b: &mut Bench, number: u32, c: Channel)
+    ensures { b.new ≡ with_box number c b.old }
+{
+    match number {
+        0 => b.left = c,
+        1 => b.right = c,
+        2 => b.left_inbox = c,
+        3 => b.right_inbox = c,
+        _ => {}
+    }
+}
+
+// The bench with another channel in a box.
 pub fn with_box(b: Bench, number: u32, c: Channel) -> Bench
     ensures { result ≡ with_box number c b }
 {
-    // Stays: an assignment to one copy. `Bench { left: c, ..b }` and the like in the arms were tried: a list
-    // of events then took 1.04 times the instructions, and no call is to get slower (docs/PERFORMANCE.md).
     let mut next = b;
-    match number {
-        0 => next.left = c,
-        1 => next.right = c,
-        2 => next.left_inbox = c,
-        3 => next.right_inbox = c,
-        _ => {}
-    }
+    put_box(&mut next, number, c);
     next
 }
 

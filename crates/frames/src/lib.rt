@@ -89,7 +89,7 @@ pub fn write(b: Bench, side: u32, area: &mut [u8], start: usize) -> Result<(), R
     ensures answer { refusal_number result ≡ write_refusal b side start area.old }
     ensures new_area { area.new ≡ area_written b side start area.old }
 {
-    if !bench::is_sound(b) {
+    if !b.is_sound() {
         return Err(Refusal::UnsoundBench);
     }
     if 1 < side {

@@ -8,7 +8,7 @@ ghost use Rattle.modes.specs.Sets.{PITCH, ALTSEL, engage, engaged_in, in_on};
 ghost use Rattle.knobs.specs.Knobs.{counted, moved, referred, reference_moved, pitched, differ, wheel_turned, altitude_moved, altitude_turned, heading_moved, heading_turned, knob_turned, turned};
 
 use bench::parts::{
-    IAS, PRESELECTED, VERTICAL_SPEED, box_of, reference_at, with_box, with_reference,
+    IAS, PRESELECTED, VERTICAL_SPEED, box_of, put_box, reference_at, with_reference,
 };
 use bench::{Bench, Channel, References};
 use modes::ModeSet;
@@ -46,15 +46,12 @@ struct Turn {
     rotation: Rotation,
 }
 
-// The bench with a knob's new count.
+// A knob's new count.
 #[tactic(auto, unfolding(crate::specs::Knobs::counted, bench::specs::Parts::with_counts))]
-fn count(b: Bench, knob: u32, n: u8) -> Bench
-    ensures { result ≡ counted knob n b }
+fn count(b: &mut Bench, knob: u32, n: u8)
+    ensures { b.new ≡ counted knob n b.old }
 {
-    Bench {
-        counts: bench::parts::with_count(b.counts, knob, n),
-        ..b
-    }
+    b.counts = bench::parts::with_count(b.counts, knob, n);
 }
 
 // The references with an amount added at a place, clamped to its range.
@@ -66,25 +63,25 @@ fn move_at(r: References, place: u32, amount: i32) -> References
     with_reference(r, place, next)
 }
 
-// The bench with other references on a side.
+// Other references on a side.
 #[tactic(auto, unfolding(crate::specs::Knobs::referred, bench::specs::Parts::with_references))]
-fn refer(b: Bench, side: u32, references: References) -> Bench
-    ensures { result ≡ referred references side b }
+fn refer(b: &mut Bench, side: u32, references: References)
+    ensures { b.new ≡ referred references side b.old }
 {
     let c = Channel {
         references,
-        ..box_of(b, side)
+        ..box_of(*b, side)
     };
-    with_box(b, side, c)
+    put_box(b, side, c);
 }
 
 // Stays: a bench and a side come one by one, as in the definitions and in the crates below, which would
 // take a struct of both apart at each call.
-fn move_reference(b: Bench, side: u32, place: u32, rotation: Rotation) -> Bench
-    ensures { result ≡ reference_moved place rotation.clicks side b }
+fn move_reference(b: &mut Bench, side: u32, place: u32, rotation: Rotation)
+    ensures { b.new ≡ reference_moved place rotation.clicks side b.old }
 {
-    let c = box_of(b, side);
-    refer(b, side, move_at(c.references, place, rotation.clicks))
+    let c = box_of(*b, side);
+    refer(b, side, move_at(c.references, place, rotation.clicks));
 }
 
 // PITCH in a set that is On.
@@ -102,22 +99,22 @@ fn pitch_in(s: ModeSet) -> ModeSet
 
 // PITCH engages on a side, with entry.
 #[tactic(auto, unfolding(crate::specs::Knobs::pitched))]
-fn engage_pitch_on(b: Bench, side: u32) -> Bench
-    ensures { result ≡ pitched side b }
+fn engage_pitch_on(b: &mut Bench, side: u32)
+    ensures { b.new ≡ pitched side b.old }
 {
-    let c = box_of(b, side);
-    steps::settle(b, side, pitch_in(c.set))
+    let c = box_of(*b, side);
+    steps::settle(b, side, pitch_in(c.set));
 }
 
 // In VS and PITCH, laws 2 and 1, the wheel moves the reference; in VAPPR, law 7, and Off it does
 // nothing; in another mode PITCH engages.
-fn turn_wheel(b: Bench, side: u32, rotation: Rotation) -> Bench
-    ensures { result ≡ wheel_turned rotation.clicks side b }
+fn turn_wheel(b: &mut Bench, side: u32, rotation: Rotation)
+    ensures { b.new ≡ wheel_turned rotation.clicks side b.old }
 {
-    let c = box_of(b, side);
+    let c = box_of(*b, side);
     let law = modes::numbers::vertical_law(c.set);
     match law {
-        0 | 7 => b,
+        0 | 7 => {}
         1 => move_reference(b, side, bench::parts::PITCH, rotation),
         2 => move_reference(b, side, VERTICAL_SPEED, rotation),
         _ => engage_pitch_on(b, side),
@@ -147,18 +144,16 @@ fn in_altsel(s: ModeSet) -> bool
 
 // The preselected altitude moves; if it is another one then, PITCH ends an engaged ALTSEL.
 #[tactic(auto, unfolding(crate::specs::Knobs::altitude_turned))]
-fn turn_altitude(b: Bench, side: u32, rotation: Rotation) -> Bench
-    ensures { result ≡ altitude_turned rotation.clicks side b }
+fn turn_altitude(b: &mut Bench, side: u32, rotation: Rotation)
+    ensures { b.new ≡ altitude_turned rotation.clicks side b.old }
 {
-    let c = box_of(b, side);
+    let c = box_of(*b, side);
     let next = move_altitude(c.references, rotation);
     let capturing = in_altsel(c.set);
     let changed = preselection_differs(c.references, next);
-    let moved = refer(b, side, next);
+    refer(b, side, next);
     if capturing & changed {
-        engage_pitch_on(moved, side)
-    } else {
-        moved
+        engage_pitch_on(b, side);
     }
 }
 
@@ -172,11 +167,11 @@ fn move_heading(r: References, amount: i32) -> References
     }
 }
 
-fn turn_heading(b: Bench, side: u32, rotation: Rotation) -> Bench
-    ensures { result ≡ heading_turned rotation.clicks side b }
+fn turn_heading(b: &mut Bench, side: u32, rotation: Rotation)
+    ensures { b.new ≡ heading_turned rotation.clicks side b.old }
 {
-    let c = box_of(b, side);
-    refer(b, side, move_heading(c.references, rotation.clicks))
+    let c = box_of(*b, side);
+    refer(b, side, move_heading(c.references, rotation.clicks));
 }
 
 // The wheel, altitude and speed are knobs 0 to 2, and heading is 3.
@@ -184,7 +179,7 @@ impl SideChange for Turn {
     ghost changed = { λ t. knob_turned t.knob t.rotation.clicks };
 
     #[tactic(auto, unfolding(crate::specs::Knobs::knob_turned))]
-    fn change(self, side: u32, b: Bench) -> Bench {
+    fn change(self, side: u32, b: &mut Bench) {
         let knob = self.knob;
         match knob {
             0 => turn_wheel(b, side, self.rotation),
@@ -195,19 +190,19 @@ impl SideChange for Turn {
     }
 }
 
-// The bench after an accepted turn. The same count again does nothing.
+// An accepted turn. The same count again does nothing.
 #[tactic(auto, unfolding(crate::specs::Knobs::turned))]
-pub fn turn_to(b: Bench, knob: u32, new: u8) -> Bench
-    ensures { result ≡ turned knob new b }
+pub fn turn_to(b: &mut Bench, knob: u32, new: u8)
+    ensures { b.new ≡ turned knob new b.old }
 {
     let old = bench::parts::count_of(b.counts, knob);
-    let next = count(b, knob, new);
+    count(b, knob, new);
     if new == old {
-        return next;
+        return;
     }
     let turn = Turn {
         knob,
         rotation: Rotation::between(old, new),
     };
-    on_acting(turn, next)
+    on_acting(turn, b);
 }

@@ -1,4 +1,5 @@
 // The three steps of an event, and entry.
+// Four functions are inlined by a hint: without that a list of events takes a third more instructions.
 #![tactic(auto)]
 
 ghost use Rattle.std.specs.Prelude.{◌≡◌, ℕ};
@@ -8,9 +9,9 @@ ghost use Rattle.bench.specs.Sides.{where_acting, on_acting};
 ghost use Rattle.bench.specs.Independent.{begun};
 ghost use Rattle.steps.specs.Entry.{loaded, entry, settled};
 ghost use Rattle.steps.specs.Private.{lateral_entry, vertical_entry};
-ghost use Rattle.steps.specs.Steps.{shared_after, toggled_fd, asks_for, fd_after, with_fd_after, first_step, is_on, coming_on, second_step, third_step, later_steps, three_steps, acted};
+ghost use Rattle.steps.specs.Steps.{shared_after, toggled_fd, asks_for, fd_after, first_step, is_on, coming_on, second_step, third_step, later_steps, three_steps, acted};
 
-use bench::parts::{HELD, IAS, PITCH, ROLL, VERTICAL_SPEED, box_of, with_box};
+use bench::parts::{HELD, IAS, PITCH, ROLL, VERTICAL_SPEED, box_of, put_box};
 use bench::{Bench, Channel, References, Shared, Wholes, side_acts};
 use modes::numbers::{lateral_law, vertical_law};
 use modes::{Event, ModeSet};
@@ -59,20 +60,21 @@ pub fn enter_references(k: Wholes, before: ModeSet, after: ModeSet, r: Reference
     enter_vertical(k, vertical_law(before), vertical_law(after), lateral)
 }
 
-// A side takes another set, with entry. Not inlined, it makes a refresh an eighth longer.
+// A side takes another set, with entry. As all that follows, it changes a bench in place: a bench that is handed over and
+// handed back is copied as often as it goes through a function (docs/PERFORMANCE.md).
 #[tactic(auto, unfolding(crate::specs::Entry::enter, crate::specs::Entry::settled, bench::specs::Parts::with_set, bench::specs::Parts::with_references))]
-#[inline]
-pub fn settle(b: Bench, side: u32, after: ModeSet) -> Bench
-    ensures { result ≡ settled after side b }
+#[inline(always)]
+pub fn settle(b: &mut Bench, side: u32, after: ModeSet)
+    ensures { b.new ≡ settled after side b.old }
 {
-    let c = box_of(b, side);
+    let c = box_of(*b, side);
     let references = enter_references(b.wholes, c.set, after, c.references);
     let next = Channel {
         set: after,
         references,
         ..c
     };
-    with_box(b, side, next)
+    put_box(b, side, next);
 }
 
 // AP, flag and PF after an event. A transfer ends independent operation.
@@ -98,6 +100,7 @@ fn shared_after(e: Event, s: Shared) -> Shared
 // Stays: event, side and bench come one by one, as in the definitions. A struct of two of them would be
 // made before each call and taken apart in each body.
 #[tactic(auto, unfolding(crate::specs::Steps::asks_for))]
+#[inline(always)]
 fn asks_for(e: Event, side: u32, b: Bench) -> bool
     ensures { result ≡ asks_for e side b }
 {
@@ -114,6 +117,7 @@ fn toggle(flag: bool, fd: bool) -> bool
 
 // A side's FD after the first step.
 #[tactic(auto, unfolding(crate::specs::Steps::sets_fd, crate::specs::Steps::fd_after))]
+#[inline(always)]
 fn fd_after(e: Event, side: u32, b: Bench) -> bool
     ensures { result ≡ fd_after e side b }
 {
@@ -124,29 +128,16 @@ fn fd_after(e: Event, side: u32, b: Bench) -> bool
     c.fd | (side_acts(b, side) & (asks_for(e, 0, b) | asks_for(e, 1, b)))
 }
 
-// The bench `next` with a side's FD as an event leaves it, judged on `b`.
-#[tactic(auto, unfolding(crate::specs::Steps::with_fd_after, bench::specs::Parts::with_fd))]
-fn with_fd_after(e: Event, side: u32, b: Bench, next: Bench) -> Bench
-    ensures { result ≡ with_fd_after e side b next }
+// The first step: both FDs and the shared part, all decided from the bench that came.
+#[tactic(auto, unfolding(crate::specs::Steps::first_step, crate::specs::Steps::with_fd_after, bench::specs::Parts::with_shared, bench::specs::Parts::with_box, bench::specs::Parts::with_fd))]
+fn first_step(e: Event, b: &mut Bench)
+    ensures { b.new ≡ first_step e b.old }
 {
-    let c = Channel {
-        fd: fd_after(e, side, b),
-        ..box_of(b, side)
-    };
-    with_box(next, side, c)
-}
-
-// The first step: both FDs and the shared part, decided from the bench that came.
-#[tactic(auto, unfolding(crate::specs::Steps::first_step, bench::specs::Parts::with_shared))]
-fn first_step(e: Event, b: Bench) -> Bench
-    ensures { result ≡ first_step e b }
-{
-    let next = Bench {
-        shared: shared_after(e, b.shared),
-        ..b
-    };
-    let right = with_fd_after(e, 1, b, next);
-    with_fd_after(e, 0, b, right)
+    let left = fd_after(e, 0, *b);
+    let right = fd_after(e, 1, *b);
+    b.shared = shared_after(e, b.shared);
+    b.left.fd = left;
+    b.right.fd = right;
 }
 
 fn coming_on(s: ModeSet) -> ModeSet
@@ -196,28 +187,27 @@ fn third_step(e: Event, flag: bool, s: ModeSet) -> ModeSet
 pub trait SideChange: Copy {
     ghost changed: { Self → ℕ → Bench → Bench };
 
-    fn change(self, side: u32, b: Bench) -> Bench
-        ensures { result ≡ changed self side b };
+    fn change(self, side: u32, b: &mut Bench)
+        ensures { b.new ≡ changed self side b.old };
 }
 
 // A change made on a side that acts; another side is left as it is.
-fn where_acting<S: SideChange>(step: S, side: u32, b: Bench) -> Bench
-    ensures { result ≡ where_acting (S.changed step) side b }
+#[inline(always)]
+fn where_acting<S: SideChange>(step: S, side: u32, b: &mut Bench)
+    ensures { b.new ≡ where_acting (S.changed step) side b.old }
 {
-    if side_acts(b, side) {
-        step.change(side, b)
-    } else {
-        b
+    if side_acts(*b, side) {
+        step.change(side, b);
     }
 }
 
 // A change made on each side that acts, left first. It is a trait's method and no closure, since a
 // closure has to be callable, and no public function here asks anything of its callers.
-pub fn on_acting<S: SideChange>(step: S, b: Bench) -> Bench
-    ensures { result ≡ on_acting (S.changed step) b }
+pub fn on_acting<S: SideChange>(step: S, b: &mut Bench)
+    ensures { b.new ≡ on_acting (S.changed step) b.old }
 {
-    let left = where_acting(step, 0, b);
-    where_acting(step, 1, left)
+    where_acting(step, 0, b);
+    where_acting(step, 1, b);
 }
 
 // The second and the third step, with entry: of an event, with the overspeed flag as handed in.
@@ -231,43 +221,42 @@ impl SideChange for LaterSteps {
     ghost changed = { λ s. later_steps s.event s.overspeed };
 
     #[tactic(auto, unfolding(crate::specs::Steps::later_steps))]
-    fn change(self, side: u32, b: Bench) -> Bench {
-        let on = second_step(side, b);
-        settle(b, side, third_step(self.event, self.overspeed, on))
+    fn change(self, side: u32, b: &mut Bench) {
+        let on = second_step(side, *b);
+        settle(b, side, third_step(self.event, self.overspeed, on));
     }
 }
 
 // The bench after the three steps of an event.
 #[tactic(auto, unfolding(crate::specs::Steps::three_steps))]
-fn three_steps(e: Event, b: Bench) -> Bench
-    ensures { result ≡ three_steps e b }
+fn three_steps(e: Event, b: &mut Bench)
+    ensures { b.new ≡ three_steps e b.old }
 {
     let later = LaterSteps {
         event: e,
         overspeed: b.shared.overspeed,
     };
-    on_acting(later, first_step(e, b))
+    first_step(e, b);
+    on_acting(later, b);
 }
 
 // Independent operation goes on if both sides have LAPPR and VAPPR engaged.
-#[tactic(auto, unfolding(bench::specs::Independent::begun))]
-fn begin_independent(b: Bench) -> Bench
-    ensures { result ≡ begun b }
+#[tactic(auto, unfolding(bench::specs::Independent::begun, bench::specs::Independent::with_operation, bench::specs::Parts::with_shared))]
+fn begin_independent(b: &mut Bench)
+    ensures { b.new ≡ begun b.old }
 {
-    if bench::both_approach(b) {
-        bench::parts::with_operation(b, true)
-    } else {
-        b
+    if bench::both_approach(*b) {
+        b.shared.independent = true;
     }
 }
 
 // The bench after an event; where there is none, nothing is done.
 #[tactic(auto, unfolding(crate::specs::Steps::acted))]
-pub fn act(e: Event, b: Bench) -> Bench
-    ensures { result ≡ acted e b }
+pub fn act(e: Event, b: &mut Bench)
+    ensures { b.new ≡ acted e b.old }
 {
     match e {
-        Event::NoEvent => b,
+        Event::NoEvent => {}
         Event::IndependentSwitch => begin_independent(b),
         _ => three_steps(e, b),
     }

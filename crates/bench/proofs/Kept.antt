@@ -1,0 +1,103 @@
+-- What stands beside a reading is judged without rounding: the number by its range, and the float by whether the number is its whole value. Assumes nothing.
+use mathlib.Core.Path.{◌≡◌, refl, sym, ap, ◌∙◌}
+use mathlib.Core.Bool.{Bool, true, false, ◌&&◌, ◌||◌, cond}
+use Prim.Native.Nat.{ℕ}
+use borrow.Author.Tests.{eqb-true}
+use lib.Dec.{eqb}
+use lib.IntN.{ℤ, pos, negsuc}
+use Rattle.std.specs.Prelude.{Result, Ok, Err}
+use Rattle.rounding.specs.declared.NoWhole.{NoWhole}
+use Rattle.rounding.specs.Whole.{whole_of, same, is_whole}
+use Rattle.bench.specs.declared.Reading.{Reading}
+use Rattle.bench.specs.declared.ranges.Range.{Range}
+use Rattle.bench.specs.Private.{reads_as}
+use Rattle.bench.specs.Ranges.{range, within, reading_range}
+use Rattle.bench.specs.Readings.{exchanged, wrapped, of_kind, judged, number_of, whole_reading, whole_number, refusal_of}
+use Rattle.bench.specs.Sound.{kept}
+use Rattle.bench.proofs.Same.{same_true}
+
+-- no number is kept where there is no whole value
+none : (t : Bool) → (t && false) ≡ false
+none true = refl
+none false = refl
+
+-- a number is judged where it is kept, since the two are then the same
+judged_kept : (g : Range) (y z : ℤ) → (eqb (cond (within g y) 0 6) 0 && same y z) ≡ (within g z && same y z)
+judged_kept g y z = go (same y z) refl
+  where
+    bit : (t : Bool) → (eqb (cond t 0 6) 0 && true) ≡ (t && true)
+    bit true = refl
+    bit false = refl
+
+    clear : (t u : Bool) → (eqb (cond t 0 6) 0 && false) ≡ (u && false)
+    clear true true = refl
+    clear true false = refl
+    clear false true = refl
+    clear false false = refl
+
+    go : (s : Bool) → same y z ≡ s → (eqb (cond (within g y) 0 6) 0 && s) ≡ (within g z && s)
+    go true e = rw (same_true y z e) (bit (within g z))
+    go false e = clear (within g y) (within g z)
+
+-- where n, which lies outside the range, is read as v
+exchange : (g : Range) (n : ℕ) (v : ℤ) → within g (pos n) ≡ false → (y z : ℤ) → (within g z && same (exchanged n v y) z) ≡ (within g z && (same y z || (same v z && same y (pos n))))
+exchange g n v out (negsuc k) z = go (within g z) (same (negsuc k) z) (same v z)
+  where
+    go : (t a b : Bool) → (t && a) ≡ (t && (a || (b && false)))
+    go false a b = refl
+    go true true b = refl
+    go true false true = refl
+    go true false false = refl
+exchange g n v out (pos k) z = go (eqb k n) refl
+  where
+    other : (t a b : Bool) → (t && a) ≡ (t && (a || (b && false)))
+    other false a b = refl
+    other true true b = refl
+    other true false true = refl
+    other true false false = refl
+
+    here : (t a b : Bool) → (a ≡ true → t ≡ false) → (t && b) ≡ (t && (a || (b && true)))
+    here false a b h = refl
+    here true false true h = refl
+    here true false false h = refl
+    here true true b h = absurd (mathlib.Core.Bool.true≢false (h refl))
+
+    outside : (z : ℤ) → k ≡ n → same (pos k) z ≡ true → within g z ≡ false
+    outside z e s = rw (← same_true (pos k) z s, e) out
+
+    go : (t : Bool) → eqb k n ≡ t → (within g z && same (cond t v (pos k)) z) ≡ (within g z && (same (pos k) z || (same v z && t)))
+    go true e = here (within g z) (same (pos k) z) (same v z) (outside z (eqb-true k n e))
+    go false e = other (within g z) (same (pos k) z) (same v z)
+
+-- by what rounding answers; f is whether it is the number that is read otherwise
+by_answer : (r : Reading) (g : Range) (z : ℤ) (f : Result ℤ NoWhole → Bool) → ((n : NoWhole) → f (Err n) ≡ false)
+    → ((y : ℤ) → (within g z && (same y z || f (Ok y))) ≡ (within g z && same (wrapped r y) z))
+    → (w : Result ℤ NoWhole) → (within g z && (is_whole z w || f w)) ≡ (eqb (judged g (of_kind r w)) 0 && same (number_of (of_kind r w)) z)
+by_answer r g z f never h (Err NoWhole.NotFinite) = ap (λ (t : Bool). within g z && t) (never NoWhole.NotFinite) ∙ none (within g z)
+by_answer r g z f never h (Err NoWhole.Beyond) = ap (λ (t : Bool). within g z && t) (never NoWhole.Beyond) ∙ none (within g z)
+by_answer r g z f never h (Ok y) = h y ∙ sym (judged_kept g (wrapped r y) z)
+
+-- of a kind that reads every number as itself
+plain : (t a : Bool) → (t && (a || false)) ≡ (t && a)
+plain t true = refl
+plain t false = refl
+
+pub kept_is : (r : Reading) (z : ℤ) → (within (reading_range r) z && reads_as r z) ≡ kept r z
+unfolding refusal_of whole_number whole_reading
+kept_is (Reading.Altitude x) z = by_answer (Reading.Altitude x) (range (negsuc 7999) (pos 56000)) z (λ w. false) (λ n. refl) (λ y. plain (within (range (negsuc 7999) (pos 56000)) z) (same y z)) (whole_of x)
+kept_is (Reading.Airspeed x) z = by_answer (Reading.Airspeed x) (range (pos 0) (pos 600)) z (λ w. false) (λ n. refl) (λ y. plain (within (range (pos 0) (pos 600)) z) (same y z)) (whole_of x)
+kept_is (Reading.VerticalSpeed x) z = by_answer (Reading.VerticalSpeed x) (range (negsuc 299) (pos 300)) z (λ w. false) (λ n. refl) (λ y. plain (within (range (negsuc 299) (pos 300)) z) (same y z)) (whole_of x)
+kept_is (Reading.Roll x) z =
+    by_answer (Reading.Roll x) (range (negsuc 179) (pos 179)) z (λ w. same (negsuc 179) z && is_whole (pos 180) w) (λ n. none (same (negsuc 179) z))
+    (λ y. sym (exchange (range (negsuc 179) (pos 179)) 180 (negsuc 179) refl y z)) (whole_of x)
+kept_is (Reading.Pitch x) z = by_answer (Reading.Pitch x) (range (negsuc 89) (pos 89)) z (λ w. false) (λ n. refl) (λ y. plain (within (range (negsuc 89) (pos 89)) z) (same y z)) (whole_of x)
+kept_is (Reading.Heading x) z =
+    by_answer (Reading.Heading x) (range (pos 0) (pos 359)) z (λ w. same (pos 0) z && is_whole (pos 360) w) (λ n. none (same (pos 0) z))
+    (λ y. sym (exchange (range (pos 0) (pos 359)) 360 (pos 0) refl y z)) (whole_of x)
+
+-- the same by the test of the range, whose range is g
+pub kept_within : (r : Reading) (z : ℤ) (g : Range) → g ≡ reading_range r → within g z ≡ true → reads_as r z ≡ kept r z
+kept_within r z g e h = ap (λ (t : Bool). t && reads_as r z) (sym (ap (λ (x : Range). within x z) (sym e) ∙ h)) ∙ kept_is r z
+
+pub kept_beyond : (r : Reading) (z : ℤ) (g : Range) → g ≡ reading_range r → within g z ≡ false → false ≡ kept r z
+kept_beyond r z g e h = ap (λ (t : Bool). t && reads_as r z) (sym (ap (λ (x : Range). within x z) (sym e) ∙ h)) ∙ kept_is r z
