@@ -4,7 +4,7 @@ ghost use Rattle.calls.specs.Displays.{blank};
 ghost use Rattle.calls.specs.Answers.{event_in, display_in};
 
 use bench::References;
-use bench::answers::Answer;
+use bench::answers::{Answer, Refusal};
 use bench::parts::zero_references;
 
 // What a side shows.
@@ -18,12 +18,19 @@ pub struct Display {
     pub lamps: u32,
 }
 
-// The event that an answer names: 32 where it is refused, or where no bit was set.
+// The event that an outcome names: 32 where it is refused, or where no bit was set.
 // Stays: document 01 has 32 for a word of no bits, and the trailing zeros of such a word are as many.
+pub fn event_of(outcome: Result<u32, Refusal>) -> u32
+    ensures { result ≡ event_in outcome }
+{
+    outcome.unwrap_or(32)
+}
+
+// The event that an answer names.
 pub fn event_in(answer: Answer<u32>) -> u32
     ensures { result ≡ event_in answer.outcome }
 {
-    answer.outcome.unwrap_or(32)
+    event_of(answer.outcome)
 }
 
 fn blank() -> Display
@@ -39,9 +46,16 @@ fn blank() -> Display
     }
 }
 
-// The display that an answer shows: all zeros where it is refused.
+// The display that an outcome shows: all zeros where it is refused.
+pub fn display_of(outcome: Result<Display, Refusal>) -> Display
+    ensures { result ≡ display_in outcome }
+{
+    outcome.unwrap_or(blank())
+}
+
+// The display that an answer shows.
 pub fn display_in(answer: Answer<Display>) -> Display
     ensures { result ≡ display_in answer.outcome }
 {
-    answer.outcome.unwrap_or(blank())
+    display_of(answer.outcome)
 }

@@ -1,35 +1,33 @@
 // The calls of the bench. Each takes any bench and any arguments, and answers: an unsound bench is
 // refused with 1 first, then what document 01 names for the call; where a call refuses, its bench
-// stays as it came.
+// stays as it came. `in_place` has the same calls for a caller that keeps the bench where it is, which is quicker.
 #![tactic(auto)]
 
 pub mod answers;
 pub mod call;
+pub mod in_place;
 
-ghost use Rattle.std.specs.Prelude.{◌≡◌, cond, Ok, Err, IfOk};
+ghost use Rattle.std.specs.Prelude.{◌≡◌, cond, Ok, IfOk};
 ghost use Rattle.bench.specs.Answers.{refusal_number};
-ghost use Rattle.bench.specs.Readings.{judged, whole_reading, stored_whole};
 ghost use Rattle.bench.specs.Independent.{ended};
 ghost use Rattle.bench.specs.Sound.{sound};
 ghost use Rattle.calls.specs.declared.call.Call.{Call};
 ghost use Rattle.calls.specs.Answers.{as_answer, as_event_answer, as_display_answer};
 ghost use Rattle.calls.specs.Displays.{pf_lamp, lamps, shown};
 ghost use Rattle.calls.specs.Calls.{side_refusal, knob_refusal, word_refusal, answer, event_answer, display_answer};
-ghost use Rattle.calls.specs.Private.{received_as};
 ghost use Rattle.calls.specs.Sends.{sent, taken, refreshed};
 
 use answers::Display;
 use bench::answers::{Answer, Refusal};
-use bench::parts::{box_of, inbox_of, with_box};
-use bench::ranges::Range;
-use bench::{Bench, Channel, Reading, Readings, ranges};
+use bench::parts::{box_of, inbox_of, put_box};
+use bench::{Bench, Channel, Reading};
 
 // What a call's own arguments come to, where the bench is sound: refusal 1 goes before their own.
-fn permitted<T: Copy>(b: Bench, own: Result<T, Refusal>) -> Result<T, Refusal>
-    ensures refusal { refusal_number result ≡ cond (sound b) (refusal_number own) 1 }
+fn permitted<T: Copy>(b: &Bench, own: Result<T, Refusal>) -> Result<T, Refusal>
+    ensures refusal { refusal_number result ≡ cond (sound b.now) (refusal_number own) 1 }
     ensures value { IfOk result (λ v. own ≡ Ok v) }
 {
-    if bench::is_sound(b) {
+    if b.is_sound() {
         own
     } else {
         Err(Refusal::UnsoundBench)
@@ -67,166 +65,45 @@ fn known_events(word: u32) -> Result<(), Refusal>
 
 // What an accepted call leaves: independent operation is off where a side is without LAPPR or VAPPR
 // engaged.
-#[tactic(auto, unfolding(bench::specs::Independent::ended))]
-fn end_independent(b: Bench) -> Bench
-    ensures { result ≡ ended b }
+#[tactic(auto, unfolding(bench::specs::Independent::ended, bench::specs::Independent::with_operation, bench::specs::Parts::with_shared))]
+fn end_independent(b: &mut Bench)
+    ensures { b.new ≡ ended b.old }
 {
-    if bench::both_approach(b) {
-        b
-    } else {
-        bench::parts::with_operation(b, false)
+    if !bench::both_approach(*b) {
+        b.shared.independent = false;
     }
-}
-
-// The answer of a refused call: the bench stays as it came.
-fn refuse<T>(b: Bench, refusal: Refusal) -> Answer<T>
-    ensures outcome { result.outcome ≡ Err refusal }
-    ensures bench { result.bench ≡ b }
-{
-    Answer {
-        outcome: Err(refusal),
-        bench: b,
-    }
-}
-
-// The answer of an accepted call that answers nothing but its bench.
-fn accept(b: Bench) -> Answer<()>
-    ensures outcome { result.outcome ≡ Ok tt }
-    ensures bench { result.bench ≡ ended b }
-{
-    Answer {
-        outcome: Ok(()),
-        bench: end_independent(b),
-    }
-}
-
-// Stays: each call matches what it was permitted, here and below. One function for all would take a closure, and with it a
-// `requires`, in place of one arm.
-
-// An event word: its lowest set bit names the event.
-#[tactic(auto, unfolding(crate::specs::Calls::event_answer, crate::specs::Calls::next, crate::specs::Calls::refusal), using(crate::proofs::Answered::some_number))]
-pub fn event(b: Bench, word: u32) -> Answer<u32>
-    ensures { as_event_answer result ≡ event_answer b word }
-{
-    match permitted(b, known_events(word)) {
-        Ok(()) => {
-            let number = word.trailing_zeros();
-            Answer {
-                outcome: Ok(number),
-                bench: end_independent(steps::act(events::event_at(number), b)),
-            }
-        }
-        Err(refusal) => refuse(b, refusal),
-    }
-}
-
-// A knob's new count.
-#[tactic(auto, unfolding(crate::specs::Calls::answer, crate::specs::Calls::next, crate::specs::Calls::refusal), using(crate::proofs::Answered::some_number))]
-pub fn turn(b: Bench, knob: u32, new: u8) -> Answer<()>
-    ensures { as_answer result ≡ answer b (Call.Turn knob new) }
-{
-    match permitted(b, known_knob(knob)) {
-        Ok(()) => accept(knobs::turn_to(b, knob, new)),
-        Err(refusal) => refuse(b, refusal),
-    }
-}
-
-// The answer to a reading whose kind has this range, and which would leave these readings.
-#[tactic(auto, unfolding(crate::specs::Private::received_as), using(crate::proofs::Answered::some_number))]
-fn receive(b: Bench, r: Reading, range: Range, readings: Readings) -> Answer<()>
-    ensures { as_answer result ≡ received_as (judged range (whole_reading r)) readings (stored_whole r b.wholes) b }
-{
-    let own = bench::feed::judge(range, bench::feed::whole_reading(r));
-    match permitted(b, own) {
-        Ok(whole) => {
-            let wholes = bench::parts::with_whole(b.wholes, bench::feed::kind_of(r), whole);
-            accept(Bench {
-                readings,
-                wholes,
-                ..b
-            })
-        }
-        Err(refusal) => refuse(b, refusal),
-    }
-}
-
-// A reading of the air data feed. Each kind has its range, its number and its field.
-#[tactic(auto, unfolding(crate::specs::Private::received_as, bench::specs::Readings::refusal_of, bench::specs::Readings::stored, crate::specs::Calls::refusal, crate::specs::Calls::received, crate::specs::Calls::next, crate::specs::Calls::answer))]
-pub fn reading(b: Bench, r: Reading) -> Answer<()>
-    ensures { as_answer result ≡ answer b (Call.Reading r) }
-{
-    let last = b.readings;
-    let (range, readings) = match r {
-        Reading::Altitude(altitude) => (ranges::ALTITUDE, Readings { altitude, ..last }),
-        Reading::Airspeed(airspeed) => (ranges::AIRSPEED, Readings { airspeed, ..last }),
-        Reading::VerticalSpeed(vertical_speed) => (
-            ranges::VERTICAL_SPEED,
-            Readings {
-                vertical_speed,
-                ..last
-            },
-        ),
-        Reading::Roll(roll) => (ranges::ROLL, Readings { roll, ..last }),
-        Reading::Pitch(pitch) => (ranges::PITCH, Readings { pitch, ..last }),
-        Reading::Heading(heading) => (ranges::HEADING, Readings { heading, ..last }),
-    };
-    receive(b, r, range, readings)
 }
 
 #[tactic(auto, unfolding(crate::specs::Sends::sent))]
-fn post(b: Bench, side: u32) -> Bench
-    ensures { result ≡ sent side b }
+fn post(b: &mut Bench, side: u32)
+    ensures { b.new ≡ sent side b.old }
 {
-    with_box(b, inbox_of(bench::other_side(side)), box_of(b, side))
-}
-
-// What a side holds goes to the other side's inbox.
-#[tactic(auto, unfolding(crate::specs::Calls::answer, crate::specs::Calls::next, crate::specs::Calls::refusal), using(crate::proofs::Answered::some_number))]
-pub fn send(b: Bench, side: u32) -> Answer<()>
-    ensures { as_answer result ≡ answer b (Call.Send side) }
-{
-    match permitted(b, known_side(side)) {
-        Ok(()) => accept(post(b, side)),
-        Err(refusal) => refuse(b, refusal),
-    }
+    let own = box_of(*b, side);
+    put_box(b, inbox_of(bench::other_side(side)), own);
 }
 
 // A side takes over the set and the references of a box; its flight director stays.
 #[tactic(auto, unfolding(crate::specs::Sends::taken, bench::specs::Parts::with_set, bench::specs::Parts::with_references))]
-fn take(b: Bench, side: u32, source: u32) -> Bench
-    ensures { result ≡ taken source side b }
+fn take(b: &mut Bench, side: u32, source: u32)
+    ensures { b.new ≡ taken source side b.old }
 {
-    let own = box_of(b, side);
-    let given = box_of(b, source);
-    with_box(
-        b,
-        side,
-        Channel {
-            fd: own.fd,
-            ..given
-        },
-    )
+    let own = box_of(*b, side);
+    let given = box_of(*b, source);
+    let next = Channel {
+        fd: own.fd,
+        ..given
+    };
+    put_box(b, side, next);
 }
 
 #[tactic(auto, unfolding(crate::specs::Sends::refreshed))]
-fn renew(b: Bench, side: u32) -> Bench
-    ensures { result ≡ refreshed side b }
+fn renew(b: &mut Bench, side: u32)
+    ensures { b.new ≡ refreshed side b.old }
 {
-    if bench::side_acts(b, side) {
-        steps::settle(b, side, steps::second_step(side, b))
+    if bench::side_acts(*b, side) {
+        steps::settle(b, side, steps::second_step(side, *b));
     } else {
-        take(b, side, inbox_of(side))
-    }
-}
-
-// A side that does not act takes over what was sent to it last; one that acts applies the On rule.
-#[tactic(auto, unfolding(crate::specs::Calls::answer, crate::specs::Calls::next, crate::specs::Calls::refusal), using(crate::proofs::Answered::some_number))]
-pub fn refresh(b: Bench, side: u32) -> Answer<()>
-    ensures { as_answer result ≡ answer b (Call.Refresh side) }
-{
-    match permitted(b, known_side(side)) {
-        Ok(()) => accept(renew(b, side)),
-        Err(refusal) => refuse(b, refusal),
+        take(b, side, inbox_of(side));
     }
 }
 
@@ -263,16 +140,59 @@ fn show(b: Bench, side: u32) -> Display
     }
 }
 
+// ---- the calls of a bench that is handed over and handed back
+
+// An event word: its lowest set bit names the event.
+pub fn event(b: Bench, word: u32) -> Answer<u32>
+    ensures { as_event_answer result ≡ event_answer b word }
+{
+    let mut bench = b;
+    let outcome = in_place::event(&mut bench, word);
+    Answer { outcome, bench }
+}
+
+// A knob's new count.
+pub fn turn(b: Bench, knob: u32, new: u8) -> Answer<()>
+    ensures { as_answer result ≡ answer b (Call.Turn knob new) }
+{
+    let mut bench = b;
+    let outcome = in_place::turn(&mut bench, knob, new);
+    Answer { outcome, bench }
+}
+
+// A reading of the air data feed.
+pub fn reading(b: Bench, r: Reading) -> Answer<()>
+    ensures { as_answer result ≡ answer b (Call.Reading r) }
+{
+    let mut bench = b;
+    let outcome = in_place::reading(&mut bench, r);
+    Answer { outcome, bench }
+}
+
+// What a side holds goes to the other side's inbox.
+pub fn send(b: Bench, side: u32) -> Answer<()>
+    ensures { as_answer result ≡ answer b (Call.Send side) }
+{
+    let mut bench = b;
+    let outcome = in_place::send(&mut bench, side);
+    Answer { outcome, bench }
+}
+
+// A side that does not act takes over what was sent to it last; one that acts applies the On rule.
+pub fn refresh(b: Bench, side: u32) -> Answer<()>
+    ensures { as_answer result ≡ answer b (Call.Refresh side) }
+{
+    let mut bench = b;
+    let outcome = in_place::refresh(&mut bench, side);
+    Answer { outcome, bench }
+}
+
 // What a side shows. The bench stays as it is.
-#[tactic(auto, unfolding(crate::specs::Calls::display_answer, crate::specs::Calls::next, crate::specs::Calls::refusal), using(crate::proofs::Answered::some_number))]
 pub fn display(b: Bench, side: u32) -> Answer<Display>
     ensures { as_display_answer result ≡ display_answer b side }
 {
-    match permitted(b, known_side(side)) {
-        Ok(()) => Answer {
-            outcome: Ok(show(b, side)),
-            bench: b,
-        },
-        Err(refusal) => refuse(b, refusal),
+    Answer {
+        outcome: in_place::display(&b, side),
+        bench: b,
     }
 }

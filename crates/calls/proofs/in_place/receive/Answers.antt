@@ -1,4 +1,4 @@
--- `calls::receive` keeps the whole value that was judged.
+-- `calls::in_place::receive` keeps the whole value that was judged.
 use Rattle.std.proofs.Common.{◌≡◌, sym, ap, ◌∙◌}
 use Rattle.rotation.proofs.Signed.{same32}
 use Rattle.bench.specs.declared.Wholes.{Wholes}
@@ -6,7 +6,7 @@ use Rattle.bench.specs.Independent.{ended}
 use Rattle.bench.specs.Parts.{with_readings, with_wholes, with_whole}
 use Rattle.bench.specs.Readings.{number_of, whole_number, stored_whole}
 use Rattle.calls.specs.Private.{received_as}
-use Rattle.calls.proofs.receive.Goals as goal
+use Rattle.calls.proofs.in_place.receive.Goals as goal
 
 pub returns-in-Ok : goal.returns-in-Ok
 unfolding received_as with_readings with_wholes stored_whole whole_number
@@ -17,8 +17,8 @@ returns-in-Ok c =
     let typed = rw own at c.judge-own.type_inv in
     let same = same32 c.in-Ok.whole (record { sfits = typed.1.1.1.1.0.1 }) in
     let number = same ∙ sym (ap number_of read) ∙ ap number_of c.whole_reading.ensures in
-    let wholes = c.with_whole-wholes.ensures ∙ (λ i. with_whole (c.kind_of.ensures i) (number i) c.args.b.wholes) in
-    let stored : c.accept.result.bench ≡ ended (with_wholes (stored_whole c.args.r c.args.b.wholes) (with_readings c.args.readings c.args.b)) =
-    c.accept.ensures.bench ∙ ap (λ (w : Wholes). ended (with_wholes w (with_readings c.args.readings c.args.b))) wholes in
+    let wholes = c.with_whole-b.ensures ∙ (λ i. with_whole (c.kind_of.ensures i) (number i) c.args.b.now.wholes) in
+    let stored : c.end_independent.new.b ≡ ended (with_wholes (stored_whole c.args.r c.args.b.now.wholes) (with_readings c.args.readings c.args.b.now)) =
+    c.end_independent.ensures ∙ ap (λ (w : Wholes). ended (with_wholes w (with_readings c.args.readings c.args.b.now))) wholes in
     let none = rw (c.judge-own.ensures.refusal, c.whole_reading.ensures) at c.in-Ok.ensures.refusal in
-    rw (c.accept.ensures.outcome, stored, ← none)
+    rw (stored, ← none)
