@@ -5,7 +5,8 @@
 //! - the `ensures` of a public function are equations that settle all that it answers: one on its
 //!   result, `result ≡ ..` or, of a reference, `result.now ≡ ..`, and one on what each `&mut` parameter
 //!   and `&mut self` holds at the end, `x.new ≡ ..`. The result may stand under one of `FAITHFUL`, the definitions
-//!   that take an answer to the paper's numbers and never two answers to the same. No right side mentions
+//!   that take an answer to the paper's numbers and never two answers to the same. One of them may also take the record
+//!   that a result and what a place holds at the end make, and then the equation settles both. No right side mentions
 //!   `result`, a `.new` or an `.exit`, since such an equation may hold of every answer. `EXCEPTIONS` lists the
 //!   functions that settle it otherwise;
 //! - an `impl From` says what it gives: `ghost from_gives = { λ x y. y ≡ .. }`, an equation of the same kind; an
@@ -366,8 +367,23 @@ fn is_of_a_term(word: &str) -> bool {
     word != "λ" && (named || OPERATORS.contains(&word))
 }
 
-/// The left side of a clause that is an equation which settles it.
-fn equation(head: &Head, clause: &Clause) -> Option<String> {
+/// What stands under one of `FAITHFUL` on a left side.
+fn under(left: &str) -> Option<&str> {
+    let (word, rest) = left.split_once(char::is_whitespace)?;
+    let faithful = FAITHFUL.iter().any(|(known, _)| *known == word);
+    faithful.then_some(rest.trim())
+}
+
+/// Of an answer that is made of the result and of what a reference points to: that place.
+fn place_of_answer(term: &str) -> Option<&str> {
+    let fields = term.strip_prefix("(record { outcome = result; bench = ")?;
+    let place = fields.strip_suffix(" })")?;
+    let name = place.strip_suffix(".new").or(place.strip_suffix(".now"))?;
+    name.chars().all(in_name).then_some(place)
+}
+
+/// What the left side of a clause settles, if it is an equation.
+fn equation(head: &Head, clause: &Clause) -> Option<Vec<String>> {
     let sides = pieces(&clause.text, |c| c == '≡');
     let [left, right] = sides[..] else {
         return None;
@@ -388,17 +404,22 @@ fn equation(head: &Head, clause: &Clause) -> Option<String> {
         .answer
         .as_ref()
         .is_some_and(|kind| kind.starts_with('&'));
-    let under = left.strip_suffix(" result").map(str::trim);
-    let faithful = under.is_some_and(|word| FAITHFUL.iter().any(|(known, _)| *known == word));
+    let told = under(&left);
+    let settled = if told == Some("result") {
+        vec!["result".to_string()]
+    } else if let Some(place) = told.and_then(place_of_answer) {
+        vec!["result".to_string(), place.to_string()]
+    } else {
+        vec![left.clone()]
+    };
     let settles = left == "result"
         || left == "result.now" && lent
-        || faithful
+        || settled[0] != left
         || place.is_some_and(|place| place.chars().all(in_name));
     let words = pieces(right, char::is_whitespace);
     let term = words.iter().all(|word| is_of_a_term(word)) && !right.trim().is_empty();
     let fact = apart && !clause.kind.ends_with('*');
-    let left = if faithful { "result".to_string() } else { left };
-    (fact && settles && term && !speaks(right, &head.parameters)).then_some(left)
+    (fact && settles && term && !speaks(right, &head.parameters)).then_some(settled)
 }
 
 /// What the `ensures` of a public function leave open of its answer.
@@ -411,6 +432,7 @@ fn left_open(head: &Head) -> Vec<String> {
     let Some(sides) = each else {
         return vec!["has an ensures that is no equation which settles its answer".to_string()];
     };
+    let sides = sides.concat();
     let mut found = Vec::new();
     let of_result = |side: &String| side == "result" || side == "result.now";
     if head.answer.is_some() && !sides.iter().any(of_result) {
@@ -670,6 +692,30 @@ mod tests {
         let both = "ensures answer { result ≡ x }\n    ensures place { self.new ≡ f self.old x }";
         assert_eq!(of(both), Vec::<String>::new());
         assert_eq!(of("ensures { result ≡ x }").len(), 1);
+    }
+
+    #[test]
+    fn an_answer_may_be_made_of_the_result_and_a_place() {
+        let of = |reference: &str, clause: &str| {
+            said(&format!(
+                "pub fn f(b: {reference}Bench, x: u8) -> R\n    ensures {{ {clause} }}\n{{\n}}\n"
+            ))
+        };
+        let made = "as_answer (record { outcome = result; bench = b.new }) ≡ answer b.old x";
+        assert_eq!(of("&mut ", made), Vec::<String>::new());
+        let looked = "as_answer (record { outcome = result; bench = b.now }) ≡ answer b.now x";
+        assert_eq!(of("&", looked), Vec::<String>::new());
+        let faulty = [
+            "as_answer (record { outcome = result; bench = b.now }) ≡ answer b.old x",
+            "as_answer (record { outcome = x; bench = b.new }) ≡ answer b.old x",
+            "as_answer (record { outcome = result; bench = f b.new }) ≡ answer b.old x",
+            "as_answer (record { outcome = result; bench = b.new }) ≡ answer b.new x",
+            "refusal_number (record { outcome = result; bench = b.new }) ≡ answer b.old x",
+            "as_answer result ≡ answer b.old x",
+        ];
+        for clause in faulty {
+            assert_eq!(of("&mut ", clause).len(), 1, "{clause}");
+        }
     }
 
     #[test]
