@@ -210,7 +210,7 @@ fn run_steps<F: FnMut(&mut [u8; 2048], Bench, u64, Sum) -> Sum>(
 ) -> Sum
     requires { (f : _) (part : _) (b : _) (word : _) (sum : _) → F.pre f part b word sum }
 {
-    let mut b = list::first_bench();
+    let mut b = bench::power_on();
     let mut sum = Sum(0);
     let mut word = list::first(seed);
     for left in (1..=calls).rev() {

@@ -1,6 +1,6 @@
 // The checksum of a list's arguments and answers.
-use bench::answers::Answer;
-use bench::{Bench, Channel, Counts, Reading, Readings, References};
+use bench::answers::{Refusal, refusal_number};
+use bench::{Bench, Channel, Counts, Reading, Readings, References, Wholes};
 use calls::answers::Display;
 use calls::call::Call;
 
@@ -65,13 +65,14 @@ impl Sum {
             .with_all(reference_words(c.references))
     }
 
-    // All that a bench of document 01 holds: independent operation and whole values are left out, which the
-    // baseline does not have.
+    // All that a bench holds.
     pub(crate) fn with_bench(self, b: Bench) -> Sum {
         let s = b.shared;
-        self.with(u64::from(s.pf) ^ (u64::from(s.ap) << 32) ^ (u64::from(s.overspeed) << 33))
+        let lights = (u64::from(s.ap) << 32) ^ (u64::from(s.overspeed) << 33);
+        self.with(u64::from(s.pf) ^ lights ^ (u64::from(s.independent) << 34))
             .with(count_word(b.counts))
             .with_all(reading_words(b.readings))
+            .with_all(whole_words(b.wholes))
             .with_channel(b.left)
             .with_channel(b.right)
             .with_channel(b.left_inbox)
@@ -81,29 +82,29 @@ impl Sum {
 
 // What a call answers besides the bench, which joins a sum.
 pub(crate) trait Told {
-    fn told(sum: Sum, answer: &Answer<Self>) -> Sum;
+    fn told(sum: Sum, outcome: Result<Self, Refusal>) -> Sum;
 }
 
 impl Told for () {
-    fn told(sum: Sum, answer: &Answer<()>) -> Sum {
-        sum.with(u64::from(answer.refusal()))
+    fn told(sum: Sum, outcome: Result<(), Refusal>) -> Sum {
+        sum.with(u64::from(refusal_number(&outcome)))
     }
 }
 
 // The event acted on, or 32.
 impl Told for u32 {
-    fn told(sum: Sum, answer: &Answer<u32>) -> Sum {
-        sum.with(pair(answer.refusal(), calls::answers::event_in(*answer)))
+    fn told(sum: Sum, outcome: Result<u32, Refusal>) -> Sum {
+        sum.with(pair(refusal_number(&outcome), calls::answers::event_of(outcome)))
     }
 }
 
 // All that is shown.
 impl Told for Display {
-    fn told(sum: Sum, answer: &Answer<Display>) -> Sum {
-        let d = calls::answers::display_in(*answer);
+    fn told(sum: Sum, outcome: Result<Display, Refusal>) -> Sum {
+        let d = calls::answers::display_of(outcome);
         let laws = (u64::from(d.lateral) << 8) ^ (u64::from(d.vertical) << 16);
         let lights = (u64::from(d.armed) << 24) ^ (u64::from(d.fd) << 48);
-        sum.with(pair(answer.refusal(), d.lamps) ^ laws ^ lights)
+        sum.with(pair(refusal_number(&outcome), d.lamps) ^ laws ^ lights)
             .with_all(reference_words(d.references))
     }
 }
@@ -148,5 +149,15 @@ fn reading_words(w: Readings) -> [u64; 6] {
         float_code(w.roll),
         float_code(w.pitch),
         float_code(w.heading),
+    ]
+}
+
+// Their whole values.
+fn whole_words(k: Wholes) -> [u64; 2] {
+    [
+        signed_code(k.altitude)
+            ^ (signed_code(k.airspeed) << 20)
+            ^ (signed_code(k.vertical_speed) << 40),
+        signed_code(k.roll) ^ (signed_code(k.pitch) << 20) ^ (signed_code(k.heading) << 40),
     ]
 }

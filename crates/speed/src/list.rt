@@ -1,14 +1,8 @@
-// The list: the bench that it begins with, a pseudo-random word for each call, and the call that a
-// word gives.
+// The list: a pseudo-random word for each call, and the call that a word gives.
 ghost use Rattle.std.specs.Prelude.{◌<◌, ◌≤◌};
 
-use bench::{Bench, Reading};
+use bench::Reading;
 use calls::call::Call;
-
-// The bench that a list begins with. The baseline powers on at 90 knots.
-pub(crate) fn first_bench() -> Bench {
-    bench::start(90).bench
-}
 
 // The word after a word: Marsaglia's xorshift by 13, 7 and 17, which goes through all words but 0.
 pub(crate) fn shuffled(word: u64) -> u64 {
@@ -52,16 +46,16 @@ pub(crate) fn call_of(kind: u64, word: u64) -> Call {
     }
 }
 
-// An event word: mostly one of the 20 bits; rarely none or many, a bit that no event has among them.
+// An event word: mostly one of the 21 bits; rarely none or many, a bit that no event has among them.
 fn event_word(word: u64) -> u32 {
     if !is_rare(word) {
-        return 1 << ((word >> 16) % 20);
+        return 1 << ((word >> 16) % 21);
     }
     let many = (word >> 20) % 4294967296;
     match (word >> 16) % 4 {
         0 => 0,
         1 => many as u32,
-        _ => (many % 1048576) as u32,
+        _ => (many % 2097152) as u32,
     }
 }
 

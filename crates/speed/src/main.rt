@@ -12,7 +12,7 @@ mod checksum;
 mod list;
 
 use bench::Bench;
-use bench::answers::Answer;
+use calls::answers::Display;
 use calls::call::Call;
 use checksum::{Sum, Told};
 use std::io;
@@ -33,19 +33,15 @@ impl Run {
             self.sum = self.sum.with_no_answer(call);
             return;
         }
-        match call {
-            Call::Event(word) => self.take(calls::event(self.bench, word)),
-            Call::Turn(knob, new) => self.take(calls::turn(self.bench, knob, new)),
-            Call::Reading(r) => self.take(calls::reading(self.bench, r)),
-            Call::Send(side) => self.take(calls::send(self.bench, side)),
-            Call::Refresh(side) => self.take(calls::refresh(self.bench, side)),
-            Call::Display(side) => self.take(calls::display(self.bench, side)),
-        }
-    }
-
-    fn take<T: Told + Copy>(&mut self, answer: Answer<T>) {
-        self.sum = T::told(self.sum, &answer);
-        self.bench = answer.bench;
+        let b = &mut self.bench;
+        self.sum = match call {
+            Call::Event(word) => u32::told(self.sum, calls::in_place::event(b, word)),
+            Call::Turn(knob, new) => <()>::told(self.sum, calls::in_place::turn(b, knob, new)),
+            Call::Reading(r) => <()>::told(self.sum, calls::in_place::reading(b, r)),
+            Call::Send(side) => <()>::told(self.sum, calls::in_place::send(b, side)),
+            Call::Refresh(side) => <()>::told(self.sum, calls::in_place::refresh(b, side)),
+            Call::Display(side) => Display::told(self.sum, calls::in_place::display(b, side)),
+        };
     }
 }
 
@@ -53,7 +49,7 @@ impl Run {
 // each call is in the sum too.
 fn run_list<const LIVE: bool>(seed: u64, calls: u64, chosen: u64) -> Sum {
     let mut run = Run {
-        bench: list::first_bench(),
+        bench: bench::power_on(),
         sum: Sum(0),
     };
     let mut word = list::first(seed);

@@ -2,7 +2,7 @@
 use crate::bench::{Bench, LOWEST};
 use crate::frames::{read, write};
 use crate::list::{first, fold, fold_answer, fold_bench, fold_channel, in_eighths, is_rare};
-use crate::list::{shuffled, List, READS};
+use crate::list::{reading_of, shuffled, List, READS};
 use crate::tables::{SET, SETS};
 use std::hint::black_box;
 
@@ -21,7 +21,7 @@ fn put_channel(b: &mut Bench, channel: usize, word: u64) {
         (word >> 56) % 41,
     ];
     for (place, amount) in amounts.into_iter().enumerate() {
-        b.references[channel][place] = LOWEST[place] + amount as i32;
+        b.numbers[channel][place] = LOWEST[place] + amount as i32;
     }
     b.sets[channel] = SET[((word >> 4) % u64::from(SETS)) as usize];
     b.fds[channel] = (word >> 20) % 2 == 1;
@@ -32,15 +32,18 @@ fn bench_of(word: u64) -> Bench {
     let other = shuffled(word);
     let mut b = Bench::power_on();
     b.pf = if is_rare(other) { 2 } else { 0 };
-    let (eighths, whole) = ((other >> 4) % 8, other >> 8);
-    b.readings = [
-        in_eighths(-8000.0, whole % 64000, eighths),
-        in_eighths(0.0, whole % 600, eighths),
-        in_eighths(-300.0, whole % 600, eighths),
-        in_eighths(-180.0, whole % 359, eighths),
-        in_eighths(-90.0, whole % 179, eighths),
-        in_eighths(0.0, whole % 359, eighths),
+    let (eighths, amount) = ((other >> 4) % 8, other >> 8);
+    let floats = [
+        in_eighths(-8000.0, amount % 64000, eighths),
+        in_eighths(0.0, amount % 600, eighths),
+        in_eighths(-300.0, amount % 600, eighths),
+        in_eighths(-180.0, amount % 359, eighths),
+        in_eighths(-90.0, amount % 179, eighths),
+        in_eighths(0.0, amount % 359, eighths),
     ];
+    for (kind, x) in floats.into_iter().enumerate() {
+        b.keep(reading_of(kind as u64, x));
+    }
     for (channel, word) in [word, other, other, word].into_iter().enumerate() {
         put_channel(&mut b, channel, word);
     }

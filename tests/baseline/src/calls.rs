@@ -1,8 +1,8 @@
 //! The calls. Each judges refusal 1 first, then what is its own, and changes the bench only where it
 //! answers 0.
-use crate::bench::{self, is_in_range, Bench, Reading, HIGHEST, LOWEST};
+use crate::bench::{self, Bench, Kind, Reading, HIGHEST, LOWEST};
 use crate::modes::{self, OFF};
-use crate::tables::{ASKS_FD, CHANGED, PITCHED, SHOWN};
+use crate::tables::{ASKS_FD, CHANGED, PITCHED, SHOWN, STEPPED};
 
 /// What a side shows.
 #[derive(Clone, Copy, Debug, PartialEq, Eq)]
@@ -24,11 +24,11 @@ const BLANK: Display = Display {
     lamps: 0,
 };
 
-/// Loads a reference from its reading.
+/// Loads a reference from the whole value that is kept of its reading.
 #[inline]
-fn load(b: &mut Bench, side: usize, reference: usize, reading: usize) {
-    let whole = b.whole(reading);
-    b.references[side][reference] = whole.clamp(LOWEST[reference], HIGHEST[reference]);
+fn load(b: &mut Bench, side: usize, reference: usize, kind: Kind) {
+    let whole = b.whole(kind);
+    b.numbers[side][reference] = whole.clamp(LOWEST[reference], HIGHEST[reference]);
 }
 
 /// A side takes another set, with entry.
@@ -38,16 +38,16 @@ fn settle(b: &mut Bench, side: usize, set: u8) {
     let is = SHOWN[set as usize];
     b.sets[side] = set;
     if is.lateral == modes::ROLL && was.lateral != modes::ROLL {
-        load(b, side, bench::ROLL, 3);
+        load(b, side, bench::ROLL, Kind::Roll);
     }
     if is.vertical == was.vertical {
         return;
     }
     match is.vertical {
-        modes::PITCH => load(b, side, bench::PITCH, 4),
-        modes::VS => load(b, side, bench::VERTICAL_SPEED, 2),
-        modes::FLC => load(b, side, bench::IAS, 1),
-        modes::ALT => load(b, side, bench::HELD, 0),
+        modes::PITCH => load(b, side, bench::PITCH, Kind::Pitch),
+        modes::VS => load(b, side, bench::VERTICAL_SPEED, Kind::VerticalSpeed),
+        modes::FLC => load(b, side, bench::IAS, Kind::Airspeed),
+        modes::ALT => load(b, side, bench::HELD, Kind::Altitude),
         _ => {}
     }
 }
@@ -66,23 +66,52 @@ fn on_rule(b: &Bench, side: usize) -> u8 {
     }
 }
 
-/// The first step: flight directors, AP, flag and PF, all by the bench that came.
+/// Makes a change on each side that acts: the active one, and in independent operation the other too.
+/// That ends where the changes took from a side a mode that it needs.
 #[inline]
-fn first_step(b: &mut Bench, event: u32) {
+fn on_acting(b: &mut Bench, change: impl Fn(&mut Bench, usize)) {
+    let active = b.pf as usize & 1;
+    change(b, active);
+    if b.independent {
+        change(b, active ^ 1);
+        b.independent = b.has_both_approaches();
+    }
+}
+
+/// The first step: flight directors, AP, flag and PF, all by the bench that came. Where one side that
+/// acts asks for its flight director, all that act get theirs.
+#[inline]
+fn first_step(b: &mut Bench, event: usize) {
     let active = b.pf as usize & 1;
     let case = 2 * b.ap as u8 + b.overspeed as u8;
-    let asked = ASKS_FD[event as usize][b.sets[active] as usize] >> case & 1 != 0;
+    let asks = |side: usize| ASKS_FD[event][b.sets[side] as usize] >> case & 1 != 0;
+    let asked = asks(active) | (b.independent & asks(active ^ 1));
     b.fds[active] |= asked;
+    b.fds[active ^ 1] |= asked & b.independent;
     match event {
         0 | 4 => b.ap = false,
         1 => b.ap = !b.ap,
         2 => b.overspeed = true,
         3 => b.overspeed = false,
-        5 => b.pf ^= 1,
+        5 => {
+            b.pf ^= 1;
+            b.independent = false;
+        }
         6 => b.fds[0] = !b.fds[0] | b.overspeed,
         7 => b.fds[1] = !b.fds[1] | b.overspeed,
         _ => {}
     }
+}
+
+/// The three steps. The last two are those of the sides that act after the first.
+#[inline]
+fn three_steps(b: &mut Bench, event: usize) {
+    let flag = b.overspeed;
+    first_step(b, event);
+    on_acting(b, |b, side| {
+        let on = on_rule(b, side);
+        settle(b, side, CHANGED[event][flag as usize][on as usize]);
+    });
 }
 
 /// An event word. Answers the refusal and the event.
@@ -91,18 +120,15 @@ pub fn event(b: &mut Bench, word: u32) -> (u32, u32) {
     if !b.is_sound() {
         return (1, 32);
     }
-    if word >> 20 != 0 {
+    if word >> 21 != 0 {
         return (4, 32);
     }
-    if word == 0 {
-        return (0, 32);
-    }
     let event = word.trailing_zeros();
-    let flag = b.overspeed;
-    first_step(b, event);
-    let side = b.pf as usize & 1;
-    let on = on_rule(b, side);
-    settle(b, side, CHANGED[event as usize][flag as usize][on as usize]);
+    if event < STEPPED as u32 {
+        three_steps(b, event as usize);
+    } else if event == 20 {
+        b.independent = b.has_both_approaches();
+    }
     (0, event)
 }
 
@@ -120,11 +146,11 @@ fn turn_wheel(b: &mut Bench, side: usize, amount: i32) {
 /// The altitude knob: another preselected altitude ends ALTSEL.
 #[inline]
 fn turn_altitude(b: &mut Bench, side: usize, amount: i32) {
-    let was = b.references[side][bench::PRESELECTED];
+    let was = b.numbers[side][bench::PRESELECTED];
     add(b, side, bench::PRESELECTED, 100 * amount);
     let set = b.sets[side];
     let altsel = matches!(SHOWN[set as usize].vertical, modes::CAPTURE | modes::TRACK);
-    if altsel && b.references[side][bench::PRESELECTED] != was {
+    if altsel && b.numbers[side][bench::PRESELECTED] != was {
         settle(b, side, PITCHED[set as usize]);
     }
 }
@@ -132,8 +158,22 @@ fn turn_altitude(b: &mut Bench, side: usize, amount: i32) {
 /// Adds to a reference, within its range.
 #[inline]
 fn add(b: &mut Bench, side: usize, reference: usize, amount: i32) {
-    let sum = b.references[side][reference] + amount;
-    b.references[side][reference] = sum.clamp(LOWEST[reference], HIGHEST[reference]);
+    let sum = b.numbers[side][reference] + amount;
+    b.numbers[side][reference] = sum.clamp(LOWEST[reference], HIGHEST[reference]);
+}
+
+/// What a knob's rotation does on a side.
+#[inline]
+fn turn_side(b: &mut Bench, side: usize, knob: u32, amount: i32) {
+    match knob {
+        0 => turn_wheel(b, side, amount),
+        1 => turn_altitude(b, side, amount),
+        2 => add(b, side, bench::IAS, amount),
+        _ => {
+            let heading = &mut b.numbers[side][bench::HEADING];
+            *heading = (*heading + amount).rem_euclid(360);
+        }
+    }
 }
 
 /// A knob's new count. Answers the refusal.
@@ -148,18 +188,8 @@ pub fn turn(b: &mut Bench, knob: u32, new: u8) -> u32 {
     let old = b.counts[knob as usize];
     b.counts[knob as usize] = new;
     let amount = i32::from(new.wrapping_sub(old) as i8);
-    if amount == 0 {
-        return 0;
-    }
-    let side = b.pf as usize & 1;
-    match knob {
-        0 => turn_wheel(b, side, amount),
-        1 => turn_altitude(b, side, amount),
-        2 => add(b, side, bench::IAS, amount),
-        _ => {
-            let heading = &mut b.references[side][bench::HEADING];
-            *heading = (*heading + amount).rem_euclid(360);
-        }
+    if amount != 0 {
+        on_acting(b, |b, side| turn_side(b, side, knob, amount));
     }
     0
 }
@@ -170,12 +200,10 @@ pub fn reading(b: &mut Bench, r: Reading) -> u32 {
     if !b.is_sound() {
         return 1;
     }
-    let (place, x) = r.parts();
-    if is_in_range(place, x) {
-        b.readings[place] = x;
-        return 0;
-    }
-    if x.is_finite() {
+    let (_, x) = r.parts();
+    if b.keep(r) {
+        0
+    } else if x.is_finite() {
         6
     } else {
         5
@@ -202,13 +230,13 @@ pub fn send(b: &mut Bench, side: u32) -> u32 {
         return refusal;
     }
     let (from, to) = (side as usize, side as usize ^ 3);
-    b.references[to] = b.references[from];
+    b.numbers[to] = b.numbers[from];
     b.sets[to] = b.sets[from];
     b.fds[to] = b.fds[from];
     0
 }
 
-/// The passive side takes over what was sent to it; the active side applies the On rule. Answers the
+/// A side that acts applies the On rule; one that does not takes over what was sent to it. Answers the
 /// refusal.
 #[inline]
 pub fn refresh(b: &mut Bench, side: u32) -> u32 {
@@ -217,11 +245,12 @@ pub fn refresh(b: &mut Bench, side: u32) -> u32 {
         return refusal;
     }
     let at = side as usize;
-    if side == b.pf {
+    if (side == b.pf) | b.independent {
         let on = on_rule(b, at);
         settle(b, at, on);
+        b.independent &= b.has_both_approaches();
     } else {
-        b.references[at] = b.references[at + 2];
+        b.numbers[at] = b.numbers[at + 2];
         b.sets[at] = b.sets[at + 2];
     }
     0
@@ -236,7 +265,7 @@ pub fn display(b: &Bench, side: u32) -> (u32, Display) {
     }
     let at = side as usize;
     let shown = SHOWN[b.sets[at] as usize];
-    let [heading, preselected, held, vertical_speed, ias, roll, pitch, _] = b.references[at];
+    let [heading, preselected, held, vertical_speed, ias, roll, pitch, _] = b.numbers[at];
     let pf = if b.pf == 0 { 128 } else { 256 };
     let display = Display {
         fd: b.fds[at],

@@ -24,7 +24,7 @@ pub struct FrameRead {
 /// large for its bytes.
 #[inline]
 fn frame(b: &Bench, side: usize) -> [u8; LENGTH] {
-    let r = &b.references[side];
+    let r = &b.numbers[side];
     let [heading_high, heading_low] = (r[bench::HEADING] as u16).to_be_bytes();
     let [ias_high, ias_low] = (r[bench::IAS] as u16).to_be_bytes();
     let [preselected_high, preselected_low] = ((r[bench::PRESELECTED] + 8000) as u16).to_be_bytes();

@@ -1,7 +1,7 @@
 //! The lists of calls and their checksum, the same as those of the program `speed` of the crates.
 use crate::bus;
 use crate::tables::SHOWN;
-use crate::{display, event, reading, refresh, send, turn, Bench, Display, Reading};
+use crate::{display, event, reading, refresh, send, turn, Bench, Display, Kind, Reading};
 use std::hint::black_box;
 
 /// The kinds of the lists of frames that are written, and of those that are read.
@@ -53,13 +53,13 @@ pub(crate) fn is_rare(word: u64) -> bool {
 #[inline]
 fn event_word(word: u64) -> u32 {
     if !is_rare(word) {
-        return 1 << ((word >> 16) % 20);
+        return 1 << ((word >> 16) % 21);
     }
     let many = (word >> 20) as u32;
     match (word >> 16) % 4 {
         0 => 0,
         1 => many,
-        _ => many % 1048576,
+        _ => many % 2097152,
     }
 }
 
@@ -112,7 +112,7 @@ pub(crate) fn in_eighths(low: f64, whole: u64, eighths: u64) -> f64 {
 }
 
 #[inline]
-fn reading_of(kind: u64, x: f64) -> Reading {
+pub(crate) fn reading_of(kind: u64, x: f64) -> Reading {
     match kind {
         0 => Reading::Altitude(x),
         1 => Reading::Airspeed(x),
@@ -162,17 +162,32 @@ pub(crate) fn fold_answer(sum: u64, fd: bool, set: u8, references: &[i32]) -> u6
 
 #[inline]
 pub(crate) fn fold_channel(sum: u64, b: &Bench, channel: usize) -> u64 {
-    fold_answer(sum, b.fds[channel], b.sets[channel], &b.references[channel])
+    fold_answer(sum, b.fds[channel], b.sets[channel], &b.numbers[channel])
+}
+
+/// The kinds of readings in their order in a list.
+const KINDS: [Kind; 6] = [
+    Kind::Altitude,
+    Kind::Airspeed,
+    Kind::VerticalSpeed,
+    Kind::Roll,
+    Kind::Pitch,
+    Kind::Heading,
+];
+
+fn fold_readings(sum: u64, b: &Bench) -> u64 {
+    let floats = KINDS.map(|kind| float_code(b.readings[kind as usize]));
+    let wholes = KINDS.map(|kind| signed_code(b.whole(kind)));
+    let three = |at: usize| wholes[at] ^ wholes[at + 1] << 20 ^ wholes[at + 2] << 40;
+    let sum = floats.into_iter().fold(sum, fold);
+    fold(fold(sum, three(0)), three(3))
 }
 
 pub(crate) fn fold_bench(sum: u64, b: &Bench) -> u64 {
-    let shared = u64::from(b.pf) ^ u64::from(b.ap) << 32 ^ u64::from(b.overspeed) << 33;
+    let flags = u64::from(b.ap) ^ u64::from(b.overspeed) << 1 ^ u64::from(b.independent) << 2;
+    let shared = u64::from(b.pf) ^ flags << 32;
     let counts = u64::from(u32::from_le_bytes(b.counts));
-    let feed = fold(fold(sum, shared), counts);
-    let feed = b
-        .readings
-        .iter()
-        .fold(feed, |sum, &x| fold(sum, float_code(x)));
+    let feed = fold_readings(fold(fold(sum, shared), counts), b);
     (0..4).fold(feed, |sum, channel| fold_channel(sum, b, channel))
 }
 

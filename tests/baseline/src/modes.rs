@@ -73,6 +73,11 @@ pub const fn is_coherent(m: Modes) -> bool {
         && (m.armed != LAPPR || m.vappr_armed)
 }
 
+/// Whether LAPPR and VAPPR are engaged.
+pub const fn has_approach(m: Modes) -> bool {
+    m.lateral == LAPPR && m.vertical == VAPPR
+}
+
 /// VAPPR neither armed nor engaged.
 const fn without_vappr(mut m: Modes) -> Modes {
     m.vappr_armed = false;
@@ -177,8 +182,8 @@ pub const fn changed(event: u8, flag: bool, m: Modes) -> Modes {
     }
 }
 
-/// Whether an event sets the active side's FD On, by AP, the flag and the side's set as they were
-/// handed in. None stands for a set that is Off.
+/// Whether a side that acts asks for its FD On, by AP, the flag and its set as they were handed in.
+/// None stands for a set that is Off.
 pub const fn asks_fd(event: u8, ap: bool, flag: bool, set: Option<Modes>) -> bool {
     let (lateral, vertical, armed) = match set {
         Some(m) => (m.lateral, m.vertical, m.armed),

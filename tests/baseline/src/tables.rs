@@ -14,14 +14,21 @@ pub struct Shown {
     pub lamps: u8,
 }
 
-/// Whether a set is coherent.
-pub static COHERENT: [bool; 256] = coherent();
+/// A set is not coherent.
+pub const INCOHERENT: u8 = 1;
+/// A set has not both LAPPR and VAPPR engaged.
+pub const NO_APPROACH: u8 = 2;
+
+/// What a set lacks: the sum of these two.
+pub static LACKS: [u8; 256] = lacks();
 /// What a display shows of a set.
 pub static SHOWN: [Shown; 256] = shown();
+/// How many events go through the three steps: all but 20.
+pub const STEPPED: usize = 20;
 /// A set after the mode change of an event: by the event, the flag as handed in, and the set.
-pub static CHANGED: [[[u8; 256]; 2]; 20] = changed();
-/// Whether an event sets the active side's FD On: by the event and the set, the bit 2 * AP + flag.
-pub static ASKS_FD: [[u8; 256]; 20] = asks_fd();
+pub static CHANGED: [[[u8; 256]; 2]; STEPPED] = changed();
+/// Whether a side asks for its FD On: by the event and the side's set, the bit 2 * AP + flag.
+pub static ASKS_FD: [[u8; 256]; STEPPED] = asks_fd();
 /// A set with PITCH engaged.
 pub static PITCHED: [u8; 256] = pitched();
 /// How many sets are coherent.
@@ -31,12 +38,14 @@ pub static CODE: [u8; 256] = codes();
 /// The set of a code, and Off for a number that is no code.
 pub static SET: [u8; 256] = sets();
 
-const fn coherent() -> [bool; 256] {
-    let mut table = [false; 256];
-    table[OFF as usize] = true;
+const fn lacks() -> [u8; 256] {
+    let mut table = [INCOHERENT + NO_APPROACH; 256];
+    table[OFF as usize] = NO_APPROACH;
     let mut set = 1;
     while set <= ON_SETS {
-        table[set as usize] = modes::is_coherent(modes::decoded(set));
+        let m = modes::decoded(set);
+        table[set as usize] =
+            INCOHERENT * !modes::is_coherent(m) as u8 + NO_APPROACH * !modes::has_approach(m) as u8;
         set += 1;
     }
     table
@@ -86,11 +95,14 @@ const fn changed_by(event: u8, flag: bool) -> [u8; 256] {
     table
 }
 
-const fn changed() -> [[[u8; 256]; 2]; 20] {
-    let mut table = [[[OFF; 256]; 2]; 20];
+const fn changed() -> [[[u8; 256]; 2]; STEPPED] {
+    let mut table = [[[OFF; 256]; 2]; STEPPED];
     let mut event = 0;
-    while event < 20 {
-        table[event as usize] = [changed_by(event, false), changed_by(event, true)];
+    while event < STEPPED {
+        table[event] = [
+            changed_by(event as u8, false),
+            changed_by(event as u8, true),
+        ];
         event += 1;
     }
     table
@@ -106,14 +118,14 @@ const fn asking(event: u8, set: Option<Modes>) -> u8 {
     bits
 }
 
-const fn asks_fd() -> [[u8; 256]; 20] {
-    let mut table = [[0; 256]; 20];
+const fn asks_fd() -> [[u8; 256]; STEPPED] {
+    let mut table = [[0; 256]; STEPPED];
     let mut event = 0;
-    while event < 20 {
-        table[event as usize][OFF as usize] = asking(event, None);
+    while event < STEPPED {
+        table[event][OFF as usize] = asking(event as u8, None);
         let mut set = 1;
         while set <= ON_SETS {
-            table[event as usize][set as usize] = asking(event, Some(modes::decoded(set)));
+            table[event][set as usize] = asking(event as u8, Some(modes::decoded(set)));
             set += 1;
         }
         event += 1;
@@ -133,12 +145,12 @@ const fn pitched() -> [u8; 256] {
 }
 
 const fn codes() -> [u8; 256] {
-    let coherent = coherent();
+    let lacks = lacks();
     let mut table = [SETS; 256];
     let mut code = 0;
     let mut set = 0;
     while set < 256 {
-        if coherent[set] {
+        if lacks[set] & INCOHERENT == 0 {
             table[set] = code;
             code += 1;
         }

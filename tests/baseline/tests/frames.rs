@@ -5,7 +5,7 @@ use baseline::list::{run, List, READS, WRITES};
 use baseline::{Bench, CODE, HEADING, OFF, PITCH, SET, SETS, SHOWN};
 
 const POWER_ON: [u8; LENGTH] = [
-    b'F', b'G', b'B', 0, 1, 0, 0, 0, 0, 0, 50, 27, 20, 0, 90, 31, 64, 31, 64,
+    b'F', b'G', b'B', 0, 1, 0, 0, 0, 0, 0, 50, 27, 20, 0, 120, 31, 64, 31, 64,
 ];
 
 fn refused(refusal: u32) -> FrameRead {
@@ -27,7 +27,7 @@ fn the_frame_of_power_on() {
         expected[3..22].copy_from_slice(&POWER_ON);
         expected[8] = side as u8;
         assert_eq!(area, expected);
-        let references = Bench::power_on().references[0];
+        let references = Bench::power_on().numbers[0];
         let said = FrameRead {
             side,
             references,
@@ -41,7 +41,7 @@ fn the_frame_of_power_on() {
 fn writes_are_refused_by_1_then_2_then_7() {
     let sound = Bench::power_on();
     let mut unsound = sound;
-    unsound.references[3][PITCH] = 21;
+    unsound.numbers[3][PITCH] = 21;
     let starts = [0, 1, 5, 6, 24, 25, usize::MAX - 18, usize::MAX];
     for start in starts {
         let fits = start <= 5;
@@ -117,9 +117,9 @@ fn what_is_written_is_read_for_every_code() {
             let mut b = Bench::power_on();
             b.sets[side] = SET[code as usize];
             b.fds[side] = fd;
-            b.references[side] = references;
+            b.numbers[side] = references;
             // what the other side holds is not in the frame
-            b.references[side ^ 1][HEADING] = 180;
+            b.numbers[side ^ 1][HEADING] = 180;
             let mut area = [0; LENGTH];
             assert_eq!(write(&b, side as u32, &mut area, 0), 0);
             assert_eq!(area[7], code);
@@ -164,11 +164,11 @@ fn list(chosen: u64, calls: u64) -> List {
     }
 }
 
-/// What the program of the crate `speed` wrote for 20,000 steps of each list.
+/// What the program of the crate `speed` writes for 20,000 steps of each list.
 #[test]
 fn sums_that_the_library_gave() {
-    assert_eq!(run(list(WRITES, 20_000)), 16019939827960076336);
-    assert_eq!(run(list(READS, 20_000)), 15255558102035084883);
+    assert_eq!(run(list(WRITES, 20_000)), 2276258565034524853);
+    assert_eq!(run(list(READS, 20_000)), 15306192213467745406);
 }
 
 #[test]

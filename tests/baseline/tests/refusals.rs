@@ -1,7 +1,7 @@
 //! Each refusal where it applies and nowhere else, and the bench handed back.
 use baseline::{
-    code, display, event, reading, refresh, send, turn, Bench, Display, Modes, Reading, HEADING,
-    HELD, IAS, OFF, ON_SETS, PITCH, PRESELECTED, ROLL, VERTICAL_SPEED,
+    code, display, event, reading, refresh, send, turn, Bench, Display, Kind, Modes, Reading,
+    HEADING, HELD, IAS, OFF, ON_SETS, PITCH, PRESELECTED, ROLL, SHOWN, VERTICAL_SPEED, WHOLES,
 };
 
 const BLANK: Display = Display {
@@ -64,7 +64,7 @@ fn a_reference_out_of_range() {
         for (place, low, high) in ranges {
             for x in [i32::MIN, low - 1, low, high, high + 1, i32::MAX] {
                 let mut b = Bench::power_on();
-                b.references[channel][place] = x;
+                b.numbers[channel][place] = x;
                 assert_eq!(is_refused(b), x < low || x > high, "{place} {x}");
             }
         }
@@ -94,53 +94,160 @@ fn a_set_that_is_not_coherent() {
     assert!(is_refused(b));
 }
 
-/// What document 01 says of a float with a range, by the standard library's rounding.
-fn expected(low: f64, high: f64, x: f64) -> u32 {
-    let whole = x.round_ties_even();
-    match x.is_finite() {
-        false => 5,
-        true if whole < low || whole > high => 6,
-        true => 0,
+#[test]
+fn independent_operation_without_both_pairs() {
+    let coherent = |set: u8| {
+        let mut b = Bench::power_on();
+        b.sets[0] = set;
+        b.is_sound()
+    };
+    let sets: Vec<u8> = (0..=ON_SETS).filter(|&set| coherent(set)).collect();
+    let has_pair = |set: u8| (SHOWN[set as usize].lateral, SHOWN[set as usize].vertical) == (4, 7);
+    assert_eq!(sets.iter().filter(|&&set| has_pair(set)).count(), 2);
+    for &left in &sets {
+        for &right in &sets {
+            let mut b = Bench::power_on();
+            b.sets = [left, right, OFF, OFF];
+            assert!(!is_refused(b));
+            b.independent = true;
+            assert_eq!(is_refused(b), !(has_pair(left) && has_pair(right)));
+            // what the inboxes hold is no pair of the sides
+            b.sets = [left, OFF, right, right];
+            assert!(is_refused(b));
+        }
     }
 }
 
+type OfKind = fn(f64) -> Reading;
+
+const KINDS: [(OfKind, i32, i32); 6] = [
+    (Reading::Altitude, -8000, 56000),
+    (Reading::Airspeed, 0, 600),
+    (Reading::VerticalSpeed, -300, 300),
+    (Reading::Roll, -180, 179),
+    (Reading::Pitch, -90, 89),
+    (Reading::Heading, 0, 359),
+];
+
+/// What the papers say of a reading with a range, by the standard library's rounding: its whole value,
+/// or the refusal.
+fn expected(kind: Kind, low: i32, high: i32, x: f64) -> Result<i32, u32> {
+    let nearest = x.round_ties_even();
+    let whole = match kind {
+        Kind::Heading if nearest == 360.0 => 0.0,
+        Kind::Roll if nearest == 180.0 => -180.0,
+        _ => nearest,
+    };
+    if !x.is_finite() {
+        Err(5)
+    } else if whole < f64::from(low) || whole > f64::from(high) {
+        Err(6)
+    } else {
+        Ok(whole as i32)
+    }
+}
+
+/// A bench that holds a float with a whole value, true or not.
+fn holding(kind: Kind, x: f64, whole: i32) -> Bench {
+    let mut b = Bench::power_on();
+    b.readings[kind as usize] = x;
+    b.numbers[WHOLES][kind as usize] = whole;
+    b
+}
+
+/// A reading is answered as the papers say, and stored it is sound beside its whole value and beside no
+/// other of these numbers.
+fn check(reading_of: OfKind, low: i32, high: i32, x: f64) {
+    let (kind, _) = reading_of(x).parts();
+    let answer = expected(kind, low, high, x);
+    let mut b = Bench::power_on();
+    let refusal = reading(&mut b, reading_of(x));
+    assert_eq!(refusal, answer.err().unwrap_or(0), "{kind:?} {x}");
+    let near = x.round_ties_even() as i32;
+    let around = near.saturating_sub(1)..=near.saturating_add(1);
+    let ends = [low - 1, low, 0, high, high + 1, i32::MIN, i32::MAX];
+    for whole in ends.into_iter().chain(around) {
+        let sound = holding(kind, x, whole).is_sound();
+        assert_eq!(sound, answer == Ok(whole), "{kind:?} {x} {whole}");
+    }
+    let Ok(whole) = answer else {
+        assert_eq!(b, Bench::power_on());
+        return;
+    };
+    assert!(holding(kind, x, whole).is_sound());
+    assert_eq!(b.readings[kind as usize].to_bits(), x.to_bits());
+    assert_eq!(b, holding(kind, x, whole));
+}
+
+/// All integers of the ranges and the ties between them, and the floats next to each.
 #[test]
-fn a_reading_out_of_range_or_no_number() {
-    let kinds: [(fn(f64) -> Reading, f64, f64); 6] = [
-        (Reading::Altitude, -8000.0, 56000.0),
-        (Reading::Airspeed, 0.0, 600.0),
-        (Reading::VerticalSpeed, -300.0, 300.0),
-        (Reading::Roll, -180.0, 179.0),
-        (Reading::Pitch, -90.0, 89.0),
-        (Reading::Heading, 0.0, 359.0),
-    ];
-    for (place, (kind, low, high)) in kinds.into_iter().enumerate() {
-        let mut values = vec![
-            f64::NAN,
-            f64::INFINITY,
-            f64::NEG_INFINITY,
-            f64::MAX,
-            5e-324,
-            -0.0,
-        ];
-        for eighths in (low as i32 - 2) * 8..=(high as i32 + 2) * 8 {
-            let x = f64::from(eighths) / 8.0;
-            values.extend([x.next_down(), x, x.next_up()]);
-        }
-        for x in values {
-            let mut b = Bench::power_on();
-            let answer = expected(low, high, x);
-            assert_eq!(reading(&mut b, kind(x)), answer, "{place} {x}");
-            let mut stored = Bench::power_on();
-            stored.readings[place] = x;
-            assert_eq!(stored.is_sound(), answer == 0);
-            if answer == 0 {
-                assert_eq!(b.readings[place].to_bits(), x.to_bits());
-                assert_eq!(b.whole(place), x.round_ties_even() as i32);
-            } else {
-                assert_eq!(b, Bench::power_on());
-                assert!(is_refused(stored));
+fn readings_around_their_ranges_and_the_whole_values_beside_them() {
+    for (reading_of, low, high) in KINDS {
+        for halves in (low - 2) * 2..=(high + 2) * 2 {
+            let x = f64::from(halves) / 2.0;
+            for x in [x.next_down(), x, x.next_up()] {
+                check(reading_of, low, high, x);
             }
+        }
+    }
+}
+
+/// All calls refuse a bench for one wrong whole value, and for a float that has none.
+#[test]
+fn a_wrong_whole_value_is_refused_by_all_calls() {
+    for (reading_of, low, high) in KINDS {
+        let (kind, _) = reading_of(0.0).parts();
+        for whole in [low, low + 1, high - 1, high] {
+            let x = f64::from(whole);
+            assert!(!is_refused(holding(kind, x, whole)));
+            assert!(is_refused(holding(kind, x, whole - 1)));
+            assert!(is_refused(holding(kind, x, whole + 1)));
+            for none in [f64::NAN, f64::INFINITY, f64::NEG_INFINITY, f64::MAX] {
+                assert!(is_refused(holding(kind, none, whole)));
+            }
+        }
+    }
+    assert!(!is_refused(holding(Kind::Heading, 360.0, 0)));
+    assert!(is_refused(holding(Kind::Heading, 360.0, 360)));
+    assert!(!is_refused(holding(Kind::Roll, 180.0, -180)));
+    assert!(is_refused(holding(Kind::Roll, 180.0, 180)));
+}
+
+/// Floats that are no number, infinite, tiny, so large that nothing is below their unit, near what the
+/// rounding adds to them, and near the ends of 32 bits.
+#[test]
+fn floats_far_from_any_range() {
+    let units = 3.0 * 2f64.powi(51);
+    let mut values = vec![f64::NAN, f64::INFINITY, f64::MAX, f64::MIN_POSITIVE, 5e-324];
+    for exponent in 16..64 {
+        let x = 2f64.powi(exponent);
+        values.extend([x - 0.5, x.next_down(), x, x.next_up(), x + 0.5, x + 1.0]);
+    }
+    for far in -3..=3 {
+        let far = f64::from(far);
+        values.extend([units + far, 2.0 * units + far, units / 2.0 + far]);
+    }
+    for x in values {
+        for (reading_of, low, high) in KINDS {
+            check(reading_of, low, high, x);
+            check(reading_of, low, high, -x);
+        }
+    }
+}
+
+/// Bit patterns from a xorshift, of all exponents and, with the exponent cut down, of those around the
+/// ranges.
+#[test]
+fn floats_of_any_pattern() {
+    let mut word = 1u64;
+    for _ in 0..20_000 {
+        word ^= word << 13;
+        word ^= word >> 7;
+        word ^= word << 17;
+        let near = word & !(0x7ff << 52) | (1014 + (word >> 52) % 26) << 52;
+        for (reading_of, low, high) in KINDS {
+            check(reading_of, low, high, f64::from_bits(word));
+            check(reading_of, low, high, f64::from_bits(near));
         }
     }
 }
@@ -156,12 +263,12 @@ fn sides_knobs_and_words() {
     for knob in [4, 5, 256, u32::MAX] {
         assert_eq!(turn(&mut b, knob, 7), 3);
     }
-    for bit in 20..32 {
+    for bit in 21..32 {
         assert_eq!(event(&mut b, 1 << bit), (4, 32));
         assert_eq!(event(&mut b, 1 << bit | 1 << 14), (4, 32));
     }
     assert_eq!(b, start);
-    for bit in 0..20 {
+    for bit in 0..21 {
         assert_eq!(event(&mut b, 1 << bit), (0, bit));
     }
 }
