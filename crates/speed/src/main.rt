@@ -1,4 +1,4 @@
-// Makes a pseudo-random list of calls on one bench from a start, and writes a checksum of all the
+// Makes a pseudo-random list of calls on one bench from power-on, and writes a checksum of all the
 // answers and of the bench at the end; or a list of frames that are written, or read, in one bus area.
 // tests/baseline makes the same lists and measures both.
 //

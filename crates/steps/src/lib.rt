@@ -60,7 +60,7 @@ pub fn enter_references(k: Wholes, before: ModeSet, after: ModeSet, r: Reference
     enter_vertical(k, vertical_law(before), vertical_law(after), lateral)
 }
 
-// A side takes another set, with entry. As all that follows, it changes a bench in place: a bench that is handed over and
+// A side takes another set, with entry. As the steps below do, it changes a bench in place: a bench that is handed over and
 // handed back is copied as often as it goes through a function (docs/PERFORMANCE.md).
 #[tactic(auto, unfolding(crate::specs::Entry::enter, crate::specs::Entry::settled, bench::specs::Parts::with_set, bench::specs::Parts::with_references))]
 #[inline(always)]

@@ -1,5 +1,5 @@
-//! The bench of document 01, with the requests 2026-01 to 2026-06 of document 02, written for speed:
-//! what the proved library is measured against. The calls work on a bench in place, a mode set is one
+//! The bench of document 01, with the requests 2026-01 to 2026-07 of document 02 as far as they change
+//! a call or a frame, written for speed: what the proved library is measured against. The calls work on a bench in place, a mode set is one
 //! byte, and what the rules say of a set stands in tables that the compiler fills. Refusal 1 is judged
 //! in full, on the bench as it came, at every call: nothing remembers that a bench was sound.
 //!
