@@ -409,17 +409,18 @@ fn equation(head: &Head, clause: &Clause) -> Option<Vec<String>> {
         vec!["result".to_string()]
     } else if let Some(place) = told.and_then(place_of_answer) {
         vec!["result".to_string(), place.to_string()]
-    } else {
-        vec![left.clone()]
-    };
-    let settles = left == "result"
+    } else if left == "result"
         || left == "result.now" && lent
-        || settled[0] != left
-        || place.is_some_and(|place| place.chars().all(in_name));
+        || place.is_some_and(|place| place.chars().all(in_name))
+    {
+        vec![left]
+    } else {
+        return None;
+    };
     let words = pieces(right, char::is_whitespace);
     let term = words.iter().all(|word| is_of_a_term(word)) && !right.trim().is_empty();
     let fact = apart && !clause.kind.ends_with('*');
-    (fact && settles && term && !speaks(right, &head.parameters)).then_some(settled)
+    (fact && term && !speaks(right, &head.parameters)).then_some(settled)
 }
 
 /// What the `ensures` of a public function leave open of its answer.
