@@ -1,6 +1,6 @@
 -- What stands beside a reading is judged without rounding: the number by its range, and the float by whether the number is its whole value. Assumes nothing.
 use mathlib.Core.Path.{◌≡◌, refl, sym, ap, ◌∙◌}
-use mathlib.Core.Bool.{Bool, true, false, ◌&&◌, ◌||◌, cond}
+use mathlib.Core.Bool.{Bool, true, false, ◌&&◌, ◌||◌, cond, true≢false}
 use Prim.Native.Nat.{ℕ}
 use borrow.Author.Tests.{eqb-true}
 use lib.Dec.{eqb}
@@ -11,7 +11,7 @@ use Rattle.rounding.specs.Whole.{whole_of, same, is_whole}
 use Rattle.bench.specs.declared.Reading.{Reading}
 use Rattle.bench.specs.declared.ranges.Range.{Range}
 use Rattle.bench.specs.Private.{reads_as}
-use Rattle.bench.specs.Ranges.{range, within, reading_range}
+use Rattle.bench.specs.Ranges.{within, reading_range}
 use Rattle.bench.specs.Readings.{exchanged, wrapped, of_kind, judged, number_of, whole_reading, whole_number, refusal_of}
 use Rattle.bench.specs.Sound.{kept}
 use Rattle.bench.proofs.Same.{same_true}
@@ -39,65 +39,65 @@ judged_kept g y z = go (same y z) refl
     go true e = rw (same_true y z e) (bit (within g z))
     go false e = clear (within g y) (within g z)
 
+-- a flag that is clear adds nothing
+plain : (t a b : Bool) → (t && a) ≡ (t && (a || (b && false)))
+plain t true b = refl
+plain t false true = refl
+plain t false false = refl
+
 -- where n, which lies outside the range, is read as v
 exchange : (g : Range) (n : ℕ) (v : ℤ) → within g (pos n) ≡ false → (y z : ℤ) → (within g z && same (exchanged n v y) z) ≡ (within g z && (same y z || (same v z && same y (pos n))))
-exchange g n v out (negsuc k) z = go (within g z) (same (negsuc k) z) (same v z)
-  where
-    go : (t a b : Bool) → (t && a) ≡ (t && (a || (b && false)))
-    go false a b = refl
-    go true true b = refl
-    go true false true = refl
-    go true false false = refl
+exchange g n v out (negsuc k) z = plain (within g z) (same (negsuc k) z) (same v z)
 exchange g n v out (pos k) z = go (eqb k n) refl
   where
-    other : (t a b : Bool) → (t && a) ≡ (t && (a || (b && false)))
-    other false a b = refl
-    other true true b = refl
-    other true false true = refl
-    other true false false = refl
-
     here : (t a b : Bool) → (a ≡ true → t ≡ false) → (t && b) ≡ (t && (a || (b && true)))
     here false a b h = refl
     here true false true h = refl
     here true false false h = refl
-    here true true b h = absurd (mathlib.Core.Bool.true≢false (h refl))
+    here true true b h = absurd (true≢false (h refl))
 
-    outside : (z : ℤ) → k ≡ n → same (pos k) z ≡ true → within g z ≡ false
-    outside z e s = rw (← same_true (pos k) z s, e) out
+    outside : k ≡ n → same (pos k) z ≡ true → within g z ≡ false
+    outside e s = rw (← same_true (pos k) z s, e) out
 
     go : (t : Bool) → eqb k n ≡ t → (within g z && same (cond t v (pos k)) z) ≡ (within g z && (same (pos k) z || (same v z && t)))
-    go true e = here (within g z) (same (pos k) z) (same v z) (outside z (eqb-true k n e))
-    go false e = other (within g z) (same (pos k) z) (same v z)
+    go true e = here (within g z) (same (pos k) z) (same v z) (outside (eqb-true k n e))
+    go false e = plain (within g z) (same (pos k) z) (same v z)
 
 -- by what rounding answers; f is whether it is the number that is read otherwise
 by_answer : (r : Reading) (g : Range) (z : ℤ) (f : Result ℤ NoWhole → Bool) → ((n : NoWhole) → f (Err n) ≡ false)
-    → ((y : ℤ) → (within g z && (same y z || f (Ok y))) ≡ (within g z && same (wrapped r y) z))
+    → ((y : ℤ) → (within g z && same (wrapped r y) z) ≡ (within g z && (same y z || f (Ok y))))
     → (w : Result ℤ NoWhole) → (within g z && (is_whole z w || f w)) ≡ (eqb (judged g (of_kind r w)) 0 && same (number_of (of_kind r w)) z)
 by_answer r g z f never h (Err NoWhole.NotFinite) = ap (λ (t : Bool). within g z && t) (never NoWhole.NotFinite) ∙ none (within g z)
 by_answer r g z f never h (Err NoWhole.Beyond) = ap (λ (t : Bool). within g z && t) (never NoWhole.Beyond) ∙ none (within g z)
-by_answer r g z f never h (Ok y) = h y ∙ sym (judged_kept g (wrapped r y) z)
+by_answer r g z f never h (Ok y) = sym (h y) ∙ sym (judged_kept g (wrapped r y) z)
 
 -- of a kind that reads every number as itself
-plain : (t a : Bool) → (t && (a || false)) ≡ (t && a)
-plain t true = refl
-plain t false = refl
+itself : (r : Reading) (g : Range) (z : ℤ) → ((y : ℤ) → wrapped r y ≡ y) → (w : Result ℤ NoWhole)
+    → (within g z && (is_whole z w || false)) ≡ (eqb (judged g (of_kind r w)) 0 && same (number_of (of_kind r w)) z)
+itself r g z same_number =
+    by_answer r g z (λ w. false) (λ n. refl) (λ y. ap (λ (n : ℤ). within g z && same n z) (same_number y) ∙ plain (within g z) (same y z) false)
+
+-- of a kind that reads n, which lies outside its range, as v
+otherwise : (r : Reading) (g : Range) (z : ℤ) (n : ℕ) (v : ℤ) → within g (pos n) ≡ false → ((y : ℤ) → wrapped r y ≡ exchanged n v y) → (w : Result ℤ NoWhole)
+    → (within g z && (is_whole z w || (same v z && is_whole (pos n) w))) ≡ (eqb (judged g (of_kind r w)) 0 && same (number_of (of_kind r w)) z)
+otherwise r g z n v out is =
+    by_answer r g z (λ w. same v z && is_whole (pos n) w) (λ e. none (same v z)) (λ y. ap (λ (n : ℤ). within g z && same n z) (is y) ∙ exchange g n v out y z)
 
 pub kept_is : (r : Reading) (z : ℤ) → (within (reading_range r) z && reads_as r z) ≡ kept r z
 unfolding refusal_of whole_number whole_reading
-kept_is (Reading.Altitude x) z = by_answer (Reading.Altitude x) (range (negsuc 7999) (pos 56000)) z (λ w. false) (λ n. refl) (λ y. plain (within (range (negsuc 7999) (pos 56000)) z) (same y z)) (whole_of x)
-kept_is (Reading.Airspeed x) z = by_answer (Reading.Airspeed x) (range (pos 0) (pos 600)) z (λ w. false) (λ n. refl) (λ y. plain (within (range (pos 0) (pos 600)) z) (same y z)) (whole_of x)
-kept_is (Reading.VerticalSpeed x) z = by_answer (Reading.VerticalSpeed x) (range (negsuc 299) (pos 300)) z (λ w. false) (λ n. refl) (λ y. plain (within (range (negsuc 299) (pos 300)) z) (same y z)) (whole_of x)
-kept_is (Reading.Roll x) z =
-    by_answer (Reading.Roll x) (range (negsuc 179) (pos 179)) z (λ w. same (negsuc 179) z && is_whole (pos 180) w) (λ n. none (same (negsuc 179) z))
-    (λ y. sym (exchange (range (negsuc 179) (pos 179)) 180 (negsuc 179) refl y z)) (whole_of x)
-kept_is (Reading.Pitch x) z = by_answer (Reading.Pitch x) (range (negsuc 89) (pos 89)) z (λ w. false) (λ n. refl) (λ y. plain (within (range (negsuc 89) (pos 89)) z) (same y z)) (whole_of x)
-kept_is (Reading.Heading x) z =
-    by_answer (Reading.Heading x) (range (pos 0) (pos 359)) z (λ w. same (pos 0) z && is_whole (pos 360) w) (λ n. none (same (pos 0) z))
-    (λ y. sym (exchange (range (pos 0) (pos 359)) 360 (pos 0) refl y z)) (whole_of x)
+kept_is (Reading.Altitude x) z = itself (Reading.Altitude x) (reading_range (Reading.Altitude x)) z (λ y. refl) (whole_of x)
+kept_is (Reading.Airspeed x) z = itself (Reading.Airspeed x) (reading_range (Reading.Airspeed x)) z (λ y. refl) (whole_of x)
+kept_is (Reading.VerticalSpeed x) z = itself (Reading.VerticalSpeed x) (reading_range (Reading.VerticalSpeed x)) z (λ y. refl) (whole_of x)
+kept_is (Reading.Roll x) z = otherwise (Reading.Roll x) (reading_range (Reading.Roll x)) z 180 (negsuc 179) refl (λ y. refl) (whole_of x)
+kept_is (Reading.Pitch x) z = itself (Reading.Pitch x) (reading_range (Reading.Pitch x)) z (λ y. refl) (whole_of x)
+kept_is (Reading.Heading x) z = otherwise (Reading.Heading x) (reading_range (Reading.Heading x)) z 360 (pos 0) refl (λ y. refl) (whole_of x)
 
--- the same by the test of the range, whose range is g
+-- the same of a range g, by what the test of it tells
+by_range : (r : Reading) (z : ℤ) (g : Range) (t : Bool) → g ≡ reading_range r → within g z ≡ t → (t && reads_as r z) ≡ kept r z
+by_range r z g t e h = (λ i. sym (ap (λ (x : Range). within x z) (sym e) ∙ h) i && reads_as r z) ∙ kept_is r z
+
 pub kept_within : (r : Reading) (z : ℤ) (g : Range) → g ≡ reading_range r → within g z ≡ true → reads_as r z ≡ kept r z
-kept_within r z g e h = ap (λ (t : Bool). t && reads_as r z) (sym (ap (λ (x : Range). within x z) (sym e) ∙ h)) ∙ kept_is r z
+kept_within r z g = by_range r z g true
 
 pub kept_beyond : (r : Reading) (z : ℤ) (g : Range) → g ≡ reading_range r → within g z ≡ false → false ≡ kept r z
-kept_beyond r z g e h = ap (λ (t : Bool). t && reads_as r z) (sym (ap (λ (x : Range). within x z) (sym e) ∙ h)) ∙ kept_is r z
+kept_beyond r z g = by_range r z g false

@@ -1,6 +1,7 @@
 // Readings of the air data feed: their whole values, and which are refused.
 ghost use Rattle.std.specs.Prelude.{◌≡◌, IfOk};
 ghost use Rattle.bench.specs.Answers.{refusal_number};
+ghost use Rattle.bench.specs.Private.{is_wrapped, reads_as};
 ghost use Rattle.bench.specs.Readings.{float_of, wrapped, whole_reading, judged, number_of, kind_of};
 
 use crate::Reading;
@@ -8,7 +9,7 @@ use crate::answers::Refusal;
 use crate::ranges::{Range, is_within};
 use rounding::NoWhole;
 
-pub(crate) fn float_of(r: Reading) -> f64
+fn float_of(r: Reading) -> f64
     ensures { result ≡ float_of r }
 {
     match r {
@@ -38,6 +39,24 @@ pub fn whole_reading(r: Reading) -> Result<i32, NoWhole>
     ensures { result ≡ whole_reading r }
 {
     rounding::whole_value(float_of(r)).map(|v| wrap(r, v))
+}
+
+// Whether a number stands for another integer nearest to a reading: 0 for north, and -180 for inverted.
+fn is_wrapped(r: Reading, number: i32) -> bool
+    ensures { result ≡ is_wrapped r number }
+{
+    match (r, number) {
+        (Reading::Roll(x), -180) => rounding::is_whole_value(x, 180),
+        (Reading::Heading(x), 0) => rounding::is_whole_value(x, 360),
+        _ => false,
+    }
+}
+
+// Whether a number is the whole value of a reading, if it lies within the range of the reading's kind.
+pub(crate) fn reads_as(r: Reading, number: i32) -> bool
+    ensures { result ≡ reads_as r number }
+{
+    rounding::is_whole_value(float_of(r), number) || is_wrapped(r, number)
 }
 
 // A whole value if it lies within a range, and else its refusal: 5 where there is none, 6 where it lies outside.

@@ -12,7 +12,6 @@ ghost use Rattle.std.specs.Prelude.{◌≡◌};
 ghost use Rattle.bench.specs.Holds.{start_channel, start_readings, start_wholes, bench_at, power_on, started, as_started};
 ghost use Rattle.bench.specs.Sides.{acts, other_side};
 ghost use Rattle.bench.specs.Independent.{both_approach, independent_sound};
-ghost use Rattle.bench.specs.Private.{is_wrapped, reads_as};
 ghost use Rattle.bench.specs.Ranges.{reading_range};
 ghost use Rattle.bench.specs.Sound.{references_sound, channel_sound, kept, readings_sound, sound};
 
@@ -264,24 +263,6 @@ fn box_sound(c: &Channel) -> bool
     modes::sets::set_is_coherent(c.set) && references_sound(c.references)
 }
 
-// Whether a number stands for another integer nearest to a reading: 0 for north, and -180 for inverted.
-fn is_wrapped(r: Reading, number: i32) -> bool
-    ensures { result ≡ is_wrapped r number }
-{
-    match (r, number) {
-        (Reading::Roll(x), -180) => rounding::is_whole_value(x, 180),
-        (Reading::Heading(x), 0) => rounding::is_whole_value(x, 360),
-        _ => false,
-    }
-}
-
-// Whether a number is the whole value of a reading, if it lies within the range of the reading's kind.
-fn reads_as(r: Reading, number: i32) -> bool
-    ensures { result ≡ reads_as r number }
-{
-    rounding::is_whole_value(feed::float_of(r), number) || is_wrapped(r, number)
-}
-
 // Whether a reading, whose kind has this range, would be accepted, and this number is its whole value. Nothing is rounded:
 // the range is judged on the number, and then the float by the number.
 #[tactic(auto, using(crate::proofs::Kept::kept_within, crate::proofs::Kept::kept_beyond))]
@@ -289,7 +270,7 @@ fn is_kept(range: Range, r: Reading, number: i32) -> bool
     requires { range ≡ reading_range r }
     ensures { result ≡ kept r number }
 {
-    ranges::is_within(range, number) && reads_as(r, number)
+    ranges::is_within(range, number) && feed::reads_as(r, number)
 }
 
 // Whether each reading is kept with its whole value. Joined by `&` the six take a twentieth more instructions a call.

@@ -3,7 +3,6 @@
 #![tactic(auto)]
 
 ghost use Rattle.std.specs.Prelude.{◌≡◌, ℕ};
-ghost use Rattle.modes.specs.Events.{line_of};
 ghost use Rattle.bench.specs.declared.Bench.{Bench};
 ghost use Rattle.bench.specs.Sides.{where_acting, on_acting};
 ghost use Rattle.bench.specs.Independent.{begun};
