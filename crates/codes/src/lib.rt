@@ -9,8 +9,8 @@ ghost use Rattle.codes.specs.Private.{by_armed, first_code, single_place, double
 
 use modes::{ArmedLateral, Lateral, ModeSet, Modes, Vertical};
 
-// The answer for a set that is not coherent: no set has this code.
-// Stays: set_code has a number for every set and cannot fail, since a frame has a code byte for any set.
+// The answer for a set that is not coherent: no set has this code. A frame has a code byte for any set, so this is a
+// number as the codes are.
 pub const NO_CODE: u32 = 108;
 
 // The sets by their codes: lateral law, vertical law and armed sum, a hexadecimal digit each.
@@ -51,7 +51,6 @@ fn first_code(l: Lateral, a: ArmedLateral) -> u32
 }
 
 // A vertical mode's place where each but VAPPR comes once.
-// Stays: this table and the next are no twins. One with a step of 1 or 2 has VAPPR and VGA apart, and is no shorter.
 fn single_place(v: Vertical) -> u32
     ensures { result ≡ single_place v }
 {
@@ -113,9 +112,8 @@ pub fn set_code(s: ModeSet) -> u32
     }
 }
 
-// The lateral mode of a law; LGA where the number is none's.
-// Stays: modes_by has modes for any numbers and cannot fail, here and in the two below. The TryFrom of modes refuses
-// a number that no mode has.
+// The lateral mode of a law; LGA where the number is none's. Here and in the two below any number has a mode, while
+// the TryFrom of modes refuses one that is no mode's.
 fn lateral_by(n: u64) -> Lateral
     ensures { result ≡ lateral_by n }
 {
@@ -171,15 +169,14 @@ pub fn modes_by(lateral: u64, armed: u64, vertical: u64, vappr_armed: bool) -> M
 fn set_shown(lateral: u64, vertical: u64, armed: u64) -> ModeSet
     ensures { result ≡ set_shown lateral vertical armed }
 {
-    if lateral == 0 {
-        return ModeSet::Off;
+    match lateral {
+        0 => ModeSet::Off,
+        _ => ModeSet::On(modes_by(lateral, armed % 4, vertical, 8 <= armed)),
     }
-    ModeSet::On(modes_by(lateral, armed % 4, vertical, 8 <= armed))
 }
 
 // All coherent sets in the order of their codes, Off the first, each as lateral law times 256, plus vertical law times 16,
 // plus armed sum.
-// Stays: the one const array that document 01 asks for is handed out as it is, each set a number.
 pub fn set_numbers() -> [u16; 108]
     ensures { result ≡ set_numbers }
 {
