@@ -1,83 +1,62 @@
 // Changes parts of a bench without asking any rule: a way to try refusal 1.
 ghost use Rattle.std.specs.Prelude.{◌≡◌};
-ghost use Rattle.bench.specs.Readings.{stored};
+ghost use Rattle.bench.specs.Independent.{with_operation};
 ghost use Rattle.acts.specs.Damage.{pf_damaged, set_damaged, reference_damaged, reading_damaged, whole_damaged};
 
-use bench::parts::{box_of, with_box, with_reference, with_whole};
-use bench::{Bench, Channel, Reading, Readings, Shared};
+use bench::parts::{box_of, put_box, with_reference, with_whole};
+use bench::{Bench, Channel, Reading};
 use modes::ModeSet;
 
 #[tactic(auto, unfolding(crate::specs::Damage::pf_damaged, bench::specs::Parts::with_shared))]
-pub(crate) fn damage_pf(b: Bench, n: u32) -> Bench
-    ensures { result ≡ pf_damaged n b }
+pub(crate) fn damage_pf(b: &mut Bench, n: u32)
+    ensures { b.new ≡ pf_damaged n b.old }
 {
-    Bench {
-        shared: Shared { pf: n, ..b.shared },
-        ..b
-    }
+    b.shared.pf = n;
+}
+
+#[tactic(auto, unfolding(bench::specs::Independent::with_operation, bench::specs::Parts::with_shared))]
+pub(crate) fn damage_independent(b: &mut Bench, on: bool)
+    ensures { b.new ≡ with_operation on b.old }
+{
+    b.shared.independent = on;
 }
 
 #[tactic(auto, unfolding(crate::specs::Damage::set_damaged, bench::specs::Parts::with_set))]
-pub(crate) fn damage_set(b: Bench, number: u32, set: ModeSet) -> Bench
-    ensures { result ≡ set_damaged number set b }
+pub(crate) fn damage_set(b: &mut Bench, number: u32, set: ModeSet)
+    ensures { b.new ≡ set_damaged number set b.old }
 {
-    with_box(
-        b,
-        number,
-        Channel {
-            set,
-            ..box_of(b, number)
-        },
-    )
+    let c = box_of(b, number);
+    put_box(b, number, Channel { set, ..c });
 }
 
 #[tactic(auto, unfolding(crate::specs::Damage::reference_damaged, bench::specs::Parts::with_references))]
-pub(crate) fn damage_reference(b: Bench, number: u32, place: u32, x: i32) -> Bench
-    ensures { result ≡ reference_damaged number place x b }
+pub(crate) fn damage_reference(b: &mut Bench, number: u32, place: u32, x: i32)
+    ensures { b.new ≡ reference_damaged number place x b.old }
 {
     let c = box_of(b, number);
     let references = with_reference(c.references, place, x);
-    with_box(b, number, Channel { references, ..c })
+    put_box(b, number, Channel { references, ..c });
 }
 
-// The readings with one of them replaced, whatever it is.
-// Stays: document 01 has the reading call match the kind itself, for its range and its field, and damage asks for no
-// range, so that this match stands beside that one.
-#[tactic(auto, unfolding(bench::specs::Readings::stored))]
-fn store(w: Readings, r: Reading) -> Readings
-    ensures { result ≡ stored r w }
+// The float alone, whatever it is: its whole value stays what it was.
+#[tactic(auto, unfolding(crate::specs::Damage::reading_damaged, bench::specs::Parts::with_readings, bench::specs::Readings::stored))]
+pub(crate) fn damage_reading(b: &mut Bench, r: Reading)
+    ensures { b.new ≡ reading_damaged r b.old }
 {
     match r {
-        Reading::Altitude(altitude) => Readings { altitude, ..w },
-        Reading::Airspeed(airspeed) => Readings { airspeed, ..w },
-        Reading::VerticalSpeed(vertical_speed) => Readings {
-            vertical_speed,
-            ..w
-        },
-        Reading::Roll(roll) => Readings { roll, ..w },
-        Reading::Pitch(pitch) => Readings { pitch, ..w },
-        Reading::Heading(heading) => Readings { heading, ..w },
-    }
-}
-
-// The float alone: its whole value stays what it was.
-#[tactic(auto, unfolding(crate::specs::Damage::reading_damaged, bench::specs::Parts::with_readings))]
-pub(crate) fn damage_reading(b: Bench, r: Reading) -> Bench
-    ensures { result ≡ reading_damaged r b }
-{
-    Bench {
-        readings: store(b.readings, r),
-        ..b
+        Reading::Altitude(altitude) => b.readings.altitude = altitude,
+        Reading::Airspeed(airspeed) => b.readings.airspeed = airspeed,
+        Reading::VerticalSpeed(vertical_speed) => b.readings.vertical_speed = vertical_speed,
+        Reading::Roll(roll) => b.readings.roll = roll,
+        Reading::Pitch(pitch) => b.readings.pitch = pitch,
+        Reading::Heading(heading) => b.readings.heading = heading,
     }
 }
 
 // The whole value of a kind alone.
 #[tactic(auto, unfolding(crate::specs::Damage::whole_damaged, bench::specs::Parts::with_wholes))]
-pub(crate) fn damage_whole(b: Bench, kind: u32, x: i32) -> Bench
-    ensures { result ≡ whole_damaged kind x b }
+pub(crate) fn damage_whole(b: &mut Bench, kind: u32, x: i32)
+    ensures { b.new ≡ whole_damaged kind x b.old }
 {
-    Bench {
-        wholes: with_whole(b.wholes, kind, x),
-        ..b
-    }
+    b.wholes = with_whole(b.wholes, kind, x);
 }

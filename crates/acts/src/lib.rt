@@ -4,43 +4,23 @@
 mod damage;
 
 ghost use Rattle.std.specs.Prelude.{◌≡◌};
-ghost use Rattle.calls.specs.Answers.{as_answer, as_event_answer};
-ghost use Rattle.acts.specs.Acts.{eventless, leaves, clicked, effect_of, answer_to};
+ghost use Rattle.acts.specs.Acts.{clicked, effect_of, answer_to, bench_after};
 
-use areas::AreaAct;
 use bench::Bench;
-use bench::answers::Answer;
-use bench::parts::{count_of, with_operation};
-use damage::{damage_pf, damage_reading, damage_reference, damage_set, damage_whole};
-use scripts::{Command, Mistake};
-
-// The answer of a call or a start that is no event: 32 names none.
-// Stays: as document 01 has it; an Option, here and in what a session takes, would be made 32 where the line is written.
-fn eventless(a: Answer<()>) -> Answer<u32>
-    ensures { as_event_answer result ≡ eventless (as_answer a) }
-{
-    Answer {
-        outcome: a.outcome.and(Ok(32)),
-        bench: a.bench,
-    }
-}
-
-// The answer of a command that no call can refuse: a bench alone.
-fn leaves(bench: Bench) -> Answer<u32>
-    ensures { as_event_answer result ≡ leaves bench }
-{
-    Answer {
-        outcome: Ok(32),
-        bench,
-    }
-}
+use bench::call::Call;
+use bench::parts::count_of;
+use calls::reply::Reply;
+use damage::{
+    damage_independent, damage_pf, damage_reading, damage_reference, damage_set, damage_whole,
+};
+use refusals::Refusal;
+use scripts::{AreaAct, Command, Mistake};
 
 // The turn of a knob by so many clicks, modulo 256, from its last count.
-#[tactic(auto, unfolding(crate::specs::Acts::clicked))]
-fn click(b: Bench, knob: u32, clicks: u8) -> Answer<()>
-    ensures { as_answer result ≡ clicked knob clicks b }
+fn clicked(b: &Bench, knob: u32, clicks: u8) -> Call
+    ensures { result ≡ clicked knob clicks b.now }
 {
-    calls::turn(b, knob, count_of(b.counts, knob).wrapping_add(clicks))
+    Call::Turn(knob, count_of(b.counts, knob).wrapping_add(clicks))
 }
 
 // What a command is for, beside its answer: it shows something, it can change the bench, it turns the watch on
@@ -62,7 +42,7 @@ pub fn effect_of(asked: Result<Command, Mistake>) -> Effect
     };
     match command {
         Command::Blank
-        | Command::Display(_)
+        | Command::Call(Call::Display(_))
         | Command::Pick(_)
         | Command::Bench
         | Command::Panel
@@ -70,12 +50,8 @@ pub fn effect_of(asked: Result<Command, Mistake>) -> Effect
         | Command::Read(_)
         | Command::Bytes
         | Command::Codes => Effect::Shows,
-        Command::Event(_)
-        | Command::Send(_)
-        | Command::Refresh(_)
-        | Command::Turn(_, _)
+        Command::Call(_)
         | Command::Knob(_, _)
-        | Command::Reading(_)
         | Command::PowerOn
         | Command::Start(_)
         | Command::DamagePf(_)
@@ -91,33 +67,35 @@ pub fn effect_of(asked: Result<Command, Mistake>) -> Effect
     }
 }
 
-// The answer to a command: the event acted on or 32, or its refusal, and the bench. What only shows
-// leaves the bench, and is asked for where its line is written. So do the commands of the bus area, which the
-// bench takes no part in.
-#[tactic(auto, unfolding(crate::specs::Acts::answer_to))]
-pub fn answer_to(b: Bench, asked: Result<Command, Mistake>) -> Answer<u32>
-    ensures { as_event_answer result ≡ answer_to asked b }
+// Carries out a command on the bench, and answers what it came to. What only shows is asked for where its line is
+// written, and the bus area is no part of the bench.
+#[tactic(auto, unfolding(crate::specs::Acts::answer_to, crate::specs::Acts::bench_after))]
+pub fn answer_to(b: &mut Bench, asked: Result<Command, Mistake>) -> Result<Reply, Refusal>
+    ensures answer { result ≡ answer_to asked b.old }
+    ensures bench { b.new ≡ bench_after asked b.old }
 {
     let Ok(command) = asked else {
-        return leaves(b);
+        return Ok(Reply::Done);
     };
     match command {
-        Command::Event(word) => calls::event(b, word),
-        Command::Send(side) => eventless(calls::send(b, side)),
-        Command::Refresh(side) => eventless(calls::refresh(b, side)),
-        Command::Turn(knob, count) => eventless(calls::turn(b, knob, count)),
-        Command::Knob(knob, clicks) => eventless(click(b, knob, clicks)),
-        Command::Reading(r) => eventless(calls::reading(b, r)),
-        Command::PowerOn => leaves(bench::power_on()),
-        Command::Start(speed) => eventless(bench::start(speed)),
-        Command::DamagePf(n) => leaves(damage_pf(b, n)),
-        Command::DamageReading(r) => leaves(damage_reading(b, r)),
-        Command::DamageWhole(kind, x) => leaves(damage_whole(b, kind, x)),
-        Command::DamageSet(n, set) => leaves(damage_set(b, n, set)),
-        Command::DamageReference(n, place, x) => leaves(damage_reference(b, n, place, x)),
-        Command::DamageIndependent(on) => leaves(with_operation(b, on)),
+        Command::Call(call) => return calls::apply(b, call),
+        Command::Knob(knob, clicks) => {
+            let turn = clicked(b, knob, clicks);
+            return calls::apply(b, turn);
+        }
+        Command::Start(speed) => {
+            let started = bench::start(speed);
+            *b = started.bench;
+            return started.outcome.and(Ok(Reply::Done));
+        }
+        Command::PowerOn => *b = bench::power_on(),
+        Command::DamagePf(n) => damage_pf(b, n),
+        Command::DamageReading(r) => damage_reading(b, r),
+        Command::DamageWhole(kind, x) => damage_whole(b, kind, x),
+        Command::DamageSet(n, set) => damage_set(b, n, set),
+        Command::DamageReference(n, place, x) => damage_reference(b, n, place, x),
+        Command::DamageIndependent(on) => damage_independent(b, on),
         Command::Blank
-        | Command::Display(_)
         | Command::Pick(_)
         | Command::Bench
         | Command::Panel
@@ -128,6 +106,7 @@ pub fn answer_to(b: Bench, asked: Result<Command, Mistake>) -> Answer<u32>
         | Command::Write(_, _)
         | Command::Read(_)
         | Command::Bytes
-        | Command::Codes => leaves(b),
+        | Command::Codes => {}
     }
+    Ok(Reply::Done)
 }

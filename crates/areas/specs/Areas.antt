@@ -1,14 +1,14 @@
 -- What a line does to the bus area, which is the list of its bytes. The console's page, 'the bus area'. The bench stays as it is: frames are read and written, and no call is made.
-use Rattle.std.specs.Prelude.{Bool, cond, List, ℕ, ◌+◌, leb, length, replicate, Option, Some, None, Err}
+use Rattle.std.specs.Prelude.{Bool, cond, List, ℕ, ◌+◌, leb, length, replicate, Option, Some, None, Ok, Err}
+use Rattle.refusals.specs.Refusals.{Verdict}
 use Rattle.numerals.specs.Pairs.{pair_bytes}
 use Rattle.scripts.specs.Commands.{Asked, pairs_of}
 use Rattle.scripts.specs.declared.Mistake.{Mistake}
 use Rattle.bench.specs.declared.Bench.{Bench}
-use Rattle.bench.specs.Answers.{refusal_number}
-use Rattle.frames.specs.Frames.{laid, write_refusal, area_written}
-use Rattle.areas.specs.declared.AreaAct.{AreaAct}
-use Rattle.areas.specs.declared.AreaAct.TheVariants.{Clears, Pokes, Writes}
-use Rattle.areas.specs.declared.AreaAnswer.{AreaAnswer as CodeAnswer}
+use Rattle.frames.specs.Frames.{laid, write_verdict, area_written}
+use Rattle.scripts.specs.declared.AreaAct.{AreaAct}
+use Rattle.scripts.specs.declared.AreaAct.TheVariants.{Clears, Pokes, Writes}
+use Rattle.areas.specs.declared.AreaAnswer.{AreaAnswer}
 
 -- ---- the area afterwards
 
@@ -40,22 +40,13 @@ heard_by (Some (Clears n)) asked line area = asked
 heard_by (Some (Pokes start)) asked line area = cond (inside start (poked_bytes line) area) asked (Err Mistake.NoRoom)
 heard_by (Some (Writes side start)) asked line area = asked
 
--- the refusal of the frame where one is written, else 0
-abbrev pub refusal_by : Option AreaAct → Bench → List ℕ → ℕ
-refusal_by None b area = 0
-refusal_by (Some (Clears n)) b area = 0
-refusal_by (Some (Pokes start)) b area = 0
-refusal_by (Some (Writes side start)) b area = write_refusal b side start area
-
--- what was asked, and the refusal
-pub record AreaAnswer : Type 0 where
-  pub asked : Asked
-  pub refusal : ℕ
-
--- what the code answers, as this
-abbrev pub as_area_answer : CodeAnswer → AreaAnswer
-as_area_answer a = record { asked = a.asked; refusal = refusal_number a.written }
+-- a frame that is written may be refused, and nothing else
+abbrev pub written_by : Option AreaAct → Bench → List ℕ → Verdict
+written_by None b area = Ok tt
+written_by (Some (Clears n)) b area = Ok tt
+written_by (Some (Pokes start)) b area = Ok tt
+written_by (Some (Writes side start)) b area = write_verdict b side start area
 
 -- a line that asks for this, with this act
 unfoldable pub area_answer : Option AreaAct → Asked → List ℕ → Bench → List ℕ → AreaAnswer
-area_answer act asked line b area = record { asked = heard_by act asked line area; refusal = refusal_by act b area }
+area_answer act asked line b area = record { asked = heard_by act asked line area; written = written_by act b area }

@@ -3,21 +3,12 @@
 
 ghost use Rattle.std.specs.Prelude.{◌≡◌, cond, take, replicate, Ok, Err};
 ghost use Rattle.scripts.specs.declared.Mistake.{Mistake};
-ghost use Rattle.areas.specs.Areas.{poked_bytes, inside, poked, area_by, as_area_answer, area_answer};
+ghost use Rattle.areas.specs.Areas.{poked_bytes, inside, poked, area_by, area_answer};
 
 use arrayvec::ArrayVec;
 use bench::Bench;
-use bench::answers::Refusal;
-use scripts::{Command, Mistake};
-
-// What is done to the area.
-// Stays: a side by number, which `frames::write` refuses where it is none.
-#[derive(Clone, Copy)]
-pub enum AreaAct {
-    Clears(u32),
-    Pokes(u64),
-    Writes(u32, u64),
-}
+use refusals::Refusal;
+use scripts::{AreaAct, Command, Mistake};
 
 // Whether the bytes that a poke line holds lie inside the area from a start on.
 fn lie_inside(start: u64, line: &[u8], area: &[u8]) -> bool
@@ -61,11 +52,11 @@ pub fn answer_in<const N: usize>(
     act: Option<AreaAct>,
     asked: Result<Command, Mistake>,
     line: &[u8],
-    b: Bench,
+    b: &Bench,
     area: &mut ArrayVec<u8, N>,
 ) -> AreaAnswer
-    ensures answer { as_area_answer result ≡ area_answer act asked line.now b area.old.items }
-    ensures new_area { area.new.items ≡ take N (area_by act line.now b area.old.items) }
+    ensures answer { result ≡ area_answer act asked line.now b.now area.old.items }
+    ensures new_area { area.new.items ≡ take N (area_by act line.now b.now area.old.items) }
 {
     let bytes = area.as_mut_slice();
     let mut answer = AreaAnswer {

@@ -5,14 +5,15 @@ use Prim.Native.Nat.{ℕ}
 use borrow.Author.Tests.{eqb-true}
 use lib.Dec.{eqb}
 use lib.IntN.{ℤ, pos, negsuc}
-use Rattle.std.specs.Prelude.{Result, Ok, Err}
+use Rattle.std.specs.Prelude.{Result, Ok, Err, is_ok}
+use Rattle.refusals.specs.declared.Refusal.{Refusal}
 use Rattle.rounding.specs.declared.NoWhole.{NoWhole}
 use Rattle.rounding.specs.Whole.{whole_of, same, is_whole}
 use Rattle.bench.specs.declared.Reading.{Reading}
 use Rattle.bench.specs.declared.ranges.Range.{Range}
 use Rattle.bench.specs.Private.{reads_as}
 use Rattle.bench.specs.Ranges.{within, reading_range}
-use Rattle.bench.specs.Readings.{exchanged, wrapped, of_kind, judged, number_of, whole_reading, whole_number, refusal_of}
+use Rattle.bench.specs.Readings.{exchanged, wrapped, of_kind, judged, number_of, whole_reading, whole_number, reading_verdict}
 use Rattle.bench.specs.Sound.{kept}
 use Rattle.bench.proofs.Same.{same_true}
 
@@ -21,22 +22,26 @@ none : (t : Bool) → (t && false) ≡ false
 none true = refl
 none false = refl
 
+-- what is answered of a whole value that lies within the range, or not
+abbrev at : ℤ → Bool → Result ℤ Refusal
+at y t = cond t (Ok y) (Err Refusal.OutOfRange)
+
 -- a number is judged where it is kept, since the two are then the same
-judged_kept : (g : Range) (y z : ℤ) → (eqb (cond (within g y) 0 6) 0 && same y z) ≡ (within g z && same y z)
+judged_kept : (g : Range) (y z : ℤ) → (is_ok (at y (within g y)) && same y z) ≡ (within g z && same y z)
 judged_kept g y z = go (same y z) refl
   where
-    bit : (t : Bool) → (eqb (cond t 0 6) 0 && true) ≡ (t && true)
-    bit true = refl
-    bit false = refl
+    bit : (x : ℤ) (t : Bool) → (is_ok (at x t) && true) ≡ (t && true)
+    bit x true = refl
+    bit x false = refl
 
-    clear : (t u : Bool) → (eqb (cond t 0 6) 0 && false) ≡ (u && false)
+    clear : (t u : Bool) → (is_ok (at y t) && false) ≡ (u && false)
     clear true true = refl
     clear true false = refl
     clear false true = refl
     clear false false = refl
 
-    go : (s : Bool) → same y z ≡ s → (eqb (cond (within g y) 0 6) 0 && s) ≡ (within g z && s)
-    go true e = rw (same_true y z e) (bit (within g z))
+    go : (s : Bool) → same y z ≡ s → (is_ok (at y (within g y)) && s) ≡ (within g z && s)
+    go true e = rw (same_true y z e) (bit z (within g z))
     go false e = clear (within g y) (within g z)
 
 -- a flag that is clear adds nothing
@@ -66,25 +71,24 @@ exchange g n v out (pos k) z = go (eqb k n) refl
 -- by what rounding answers; f is whether it is the number that is read otherwise
 by_answer : (r : Reading) (g : Range) (z : ℤ) (f : Result ℤ NoWhole → Bool) → ((n : NoWhole) → f (Err n) ≡ false)
     → ((y : ℤ) → (within g z && same (wrapped r y) z) ≡ (within g z && (same y z || f (Ok y))))
-    → (w : Result ℤ NoWhole) → (within g z && (is_whole z w || f w)) ≡ (eqb (judged g (of_kind r w)) 0 && same (number_of (of_kind r w)) z)
-by_answer r g z f never h (Err NoWhole.NotFinite) = ap (λ (t : Bool). within g z && t) (never NoWhole.NotFinite) ∙ none (within g z)
-by_answer r g z f never h (Err NoWhole.Beyond) = ap (λ (t : Bool). within g z && t) (never NoWhole.Beyond) ∙ none (within g z)
+    → (w : Result ℤ NoWhole) → (within g z && (is_whole z w || f w)) ≡ (is_ok (judged g (of_kind r w)) && same (number_of (of_kind r w)) z)
+by_answer r g z f never h (Err n) = ap (λ (t : Bool). within g z && t) (never n) ∙ none (within g z)
 by_answer r g z f never h (Ok y) = sym (h y) ∙ sym (judged_kept g (wrapped r y) z)
 
 -- of a kind that reads every number as itself
 itself : (r : Reading) (g : Range) (z : ℤ) → ((y : ℤ) → wrapped r y ≡ y) → (w : Result ℤ NoWhole)
-    → (within g z && (is_whole z w || false)) ≡ (eqb (judged g (of_kind r w)) 0 && same (number_of (of_kind r w)) z)
+    → (within g z && (is_whole z w || false)) ≡ (is_ok (judged g (of_kind r w)) && same (number_of (of_kind r w)) z)
 itself r g z same_number =
     by_answer r g z (λ w. false) (λ n. refl) (λ y. ap (λ (n : ℤ). within g z && same n z) (same_number y) ∙ plain (within g z) (same y z) false)
 
 -- of a kind that reads n, which lies outside its range, as v
 otherwise : (r : Reading) (g : Range) (z : ℤ) (n : ℕ) (v : ℤ) → within g (pos n) ≡ false → ((y : ℤ) → wrapped r y ≡ exchanged n v y) → (w : Result ℤ NoWhole)
-    → (within g z && (is_whole z w || (same v z && is_whole (pos n) w))) ≡ (eqb (judged g (of_kind r w)) 0 && same (number_of (of_kind r w)) z)
+    → (within g z && (is_whole z w || (same v z && is_whole (pos n) w))) ≡ (is_ok (judged g (of_kind r w)) && same (number_of (of_kind r w)) z)
 otherwise r g z n v out is =
     by_answer r g z (λ w. same v z && is_whole (pos n) w) (λ e. none (same v z)) (λ y. ap (λ (n : ℤ). within g z && same n z) (is y) ∙ exchange g n v out y z)
 
 pub kept_is : (r : Reading) (z : ℤ) → (within (reading_range r) z && reads_as r z) ≡ kept r z
-unfolding refusal_of whole_number whole_reading
+unfolding reading_verdict whole_number whole_reading
 kept_is (Reading.Altitude x) z = itself (Reading.Altitude x) (reading_range (Reading.Altitude x)) z (λ y. refl) (whole_of x)
 kept_is (Reading.Airspeed x) z = itself (Reading.Airspeed x) (reading_range (Reading.Airspeed x)) z (λ y. refl) (whole_of x)
 kept_is (Reading.VerticalSpeed x) z = itself (Reading.VerticalSpeed x) (reading_range (Reading.VerticalSpeed x)) z (λ y. refl) (whole_of x)

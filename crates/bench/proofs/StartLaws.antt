@@ -12,17 +12,20 @@ use lib.Ieee.{Float, nan, inf, fin, binary64, up, of_bits, of_int}
 use lib.Ieee.Exact.{HasValue}
 use lib.Ieee.Back.{round_whole}
 use Rattle.std.specs.Prelude.{Ok, Err}
+use Rattle.refusals.specs.declared.Refusal.{Refusal}
+use Rattle.refusals.specs.Refusals.{refusal_number}
 use Rattle.rounding.specs.declared.NoWhole.{NoWhole}
 use Rattle.rounding.specs.Whole.{in_answer, whole_of}
 use Rattle.rounding.proofs.Laws.{whole_exact}
 use Rattle.bench.specs.declared.Reading.{Reading}
 use Rattle.bench.specs.declared.Bench.{Bench}
+use Rattle.bench.specs.declared.Started.{Started}
 use Rattle.bench.specs.Parts.{with_reference}
 use Rattle.bench.specs.Ranges.{within, reference_range}
-use Rattle.bench.specs.Readings.{of_kind, whole_reading, refusal_of, whole_number}
+use Rattle.bench.specs.Readings.{of_kind, whole_reading, reading_verdict, whole_number}
 use Rattle.bench.specs.Independent.{independent_sound}
 use Rattle.bench.specs.Sound.{kept, references_sound, channel_sound, readings_sound, sound}
-use Rattle.bench.specs.Holds.{start_channel, start_readings, start_wholes, bench_at, power_on, start_speeds, Started, started}
+use Rattle.bench.specs.Holds.{start_channel, start_readings, start_wholes, bench_at, power_on, start_speeds, started}
 use Rattle.bench.specs.Starts.{Accepted, StartLaws}
 use Rattle.bench.proofs.SoundParts.{and_left, and_right, and_both, by_cond}
 use Rattle.bench.proofs.WholeLaws.{may_keep}
@@ -61,7 +64,7 @@ unfolding start_channel with_reference reference_range channel_sound references_
 channel_sound_lem n h = ap (λ (t : Bool). t && true && true) h
 
 readings_sound_lem : (n : ℕ) → n ≤ 400 → readings_sound (start_readings (pos n)) (start_wholes (pos n)) ≡ true
-unfolding readings_sound refusal_of whole_reading whole_number whole_of of_bits
+unfolding readings_sound reading_verdict whole_reading whole_number whole_of of_bits
 readings_sound_lem n h = ap (λ (t : Bool). t && true && true && true && true) (airspeed_kept n h)
 
 pub at_sound : (n : ℕ) → within start_speeds (pos n) ≡ true → sound (bench_at (pos n)) ≡ true
@@ -78,7 +81,7 @@ pub by_start : (P : Bench → Type 0) → ((n : ℕ) → within start_speeds (po
 unfolding started power_on
 by_start P at (negsuc n) = at 120 refl
 by_start P at (pos n) =
-    by_cond (λ (s : Started). P s.bench) (within start_speeds (pos n)) (record { refusal = 0; bench = bench_at (pos n) }) (record { refusal = 10; bench = power_on }) (at n) (λ h. at 120 refl)
+    by_cond (λ (s : Started). P s.bench) (within start_speeds (pos n)) (record { outcome = Ok tt; bench = bench_at (pos n) }) (record { outcome = Err Refusal.StartingSpeed; bench = power_on }) (at n) (λ h. at 120 refl)
 
 pub start_sound : (speed : ℤ) → sound (started speed).bench ≡ true
 start_sound = by_start (λ (b : Bench). sound b ≡ true) at_sound
@@ -102,24 +105,24 @@ outside speed n = go (within start_speeds speed) refl
 
 -- what a start answers, by whether the speed lies within the range
 abbrev answers : ℤ → Bool → Started
-answers speed t = cond t (record { refusal = 0; bench = bench_at speed }) (record { refusal = 10; bench = power_on })
+answers speed t = cond t (record { outcome = Ok tt; bench = bench_at speed }) (record { outcome = Err Refusal.StartingSpeed; bench = power_on })
 
 answered : (speed : ℤ) (t : Bool) → within start_speeds speed ≡ t → started speed ≡ answers speed t
 unfolding started
 answered speed t e = ap (answers speed) e
 
-no_refusal : (speed : ℤ) → (started speed).refusal ≡ 0 → within start_speeds speed ≡ true
+no_refusal : (speed : ℤ) → refusal_number (started speed).outcome ≡ 0 → within start_speeds speed ≡ true
 no_refusal speed h = go (within start_speeds speed) refl
   where
     go : (t : Bool) → within start_speeds speed ≡ t → t ≡ true
     go true e = refl
-    go false e = absurd (let r : (started speed).refusal ≡ 10 = ap (λ (s : Started). s.refusal) (answered speed false e) in omega arith)
+    go false e = absurd (let r : refusal_number (started speed).outcome ≡ 10 = ap (λ (s : Started). refusal_number s.outcome) (answered speed false e) in omega arith)
 
 pub start_laws : StartLaws
 unfolding started bench_at power_on of_int of_bits
 start_laws = record {
-  accepted = λ speed. (λ h. is_accepted speed (no_refusal speed h), λ a. ap (λ (s : Started). s.refusal) (answered speed true (in_range speed a)));
-  refused = λ speed n. ap (λ (s : Started). s.refusal) (answered speed false (outside speed n));
+  accepted = λ speed. (λ h. is_accepted speed (no_refusal speed h), λ a. ap (λ (s : Started). refusal_number s.outcome) (answered speed true (in_range speed a)));
+  refused = λ speed n. ap (λ (s : Started). refusal_number s.outcome) (answered speed false (outside speed n));
   accepted_bench = λ speed a. ap (λ (s : Started). s.bench) (answered speed true (in_range speed a));
   refused_bench = λ speed n. ap (λ (s : Started). s.bench) (answered speed false (outside speed n));
   exact = exact;

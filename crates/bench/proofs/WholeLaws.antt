@@ -1,12 +1,13 @@
 -- The laws of specs/Wholes.antt: from the laws of rounding, by what is exchanged and what is not, and by what soundness compares. Assumes nothing.
 use mathlib.Core.Path.{◌≡◌, refl, sym, ap, ◌∙◌}
-use mathlib.Core.Bool.{Bool, true, false, cond}
+use mathlib.Core.Bool.{Bool, true, false, cond, false≢true}
 use Prim.Native.Nat.{ℕ}
-use native.Mathlib.Omega.{arith}
-use borrow.Author.Tests.{ne_eqb, eqb-true, eq-eqb}
+use borrow.Author.Tests.{ne_eqb}
 use lib.IntN.{ℤ, pos, negsuc}
 use lib.Ieee.{Float, of_bits}
-use Rattle.std.specs.Prelude.{Result, Ok, Err}
+use Rattle.std.specs.Prelude.{Result, Ok, Err, is_ok}
+use Rattle.refusals.specs.declared.Refusal.{Refusal}
+use Rattle.refusals.proofs.Numbers.{accepted_is_0, number_0_is_accepted}
 use Rattle.rounding.specs.declared.NoWhole.{NoWhole}
 use Rattle.rounding.specs.Whole.{magnitude_of, signed_of, is_i32, in_answer, whole_of, same}
 use Rattle.rounding.proofs.Laws.{magnitude_nearest, magnitude_only}
@@ -15,7 +16,7 @@ use Rattle.bench.specs.declared.Readings.{Readings}
 use Rattle.bench.specs.declared.Wholes.{Wholes}
 use Rattle.bench.specs.declared.Bench.{Bench}
 use Rattle.bench.specs.Ranges.{within, reading_range, reference_range}
-use Rattle.bench.specs.Readings.{float_of, exchanged, wrapped, of_kind, whole_reading, judged, refusal_of, number_of, whole_number, wholes_of}
+use Rattle.bench.specs.Readings.{float_of, exchanged, wrapped, of_kind, whole_reading, judged, reading_verdict, number_of, whole_number, wholes_of}
 use Rattle.bench.specs.Sound.{valid, kept, readings_sound, sound}
 use Rattle.bench.specs.Wholes.{Nearest, WholeInRange, ReadingLaws, ReadingExamples}
 use Rattle.bench.proofs.Same.{same_true, same_self}
@@ -44,18 +45,17 @@ stands r z n e = of_nearest r z n ∙ go (is_i32 z)
     go true = ap Ok e
     go false = refl
 
--- no refusal is a whole value within the range
-judged_in : (r : Reading) (w : Result ℤ NoWhole) → whole_reading r ≡ w → judged (reading_range r) w ≡ 0 → WholeInRange r
-judged_in r (Err NoWhole.NotFinite) e h = absurd (omega arith)
-judged_in r (Err NoWhole.Beyond) e h = absurd (omega arith)
+-- what is accepted is a whole value within the range
+judged_in : (r : Reading) (w : Result ℤ NoWhole) → whole_reading r ≡ w → is_ok (judged (reading_range r) w) ≡ true → WholeInRange r
+judged_in r (Err none) e h = absurd (false≢true h)
 judged_in r (Ok z) e h = record { value = z; whole = e; inside = inside (within (reading_range r) z) h }
   where
-    inside : (t : Bool) → ◌≡◌ {A = ℕ} (cond t 0 6) 0 → t ≡ true
+    inside : (t : Bool) → is_ok {T = ℤ} {E = Refusal} (cond t (Ok z) (Err Refusal.OutOfRange)) ≡ true → t ≡ true
     inside true h = refl
-    inside false h = absurd (omega arith)
+    inside false h = h
 
-in_judged : (r : Reading) → WholeInRange r → judged (reading_range r) (whole_reading r) ≡ 0
-in_judged r i = ap (judged (reading_range r)) i.whole ∙ ap (λ (t : Bool). cond t 0 6) i.inside
+in_judged : (r : Reading) → WholeInRange r → is_ok (judged (reading_range r) (whole_reading r)) ≡ true
+in_judged r i = rw (i.whole, i.inside)
 
 -- the number kept beside a reading is its whole value rounded afresh
 pub kept_number : (r : Reading) (z : ℤ) → kept r z ≡ true → whole_number r ≡ z
@@ -63,16 +63,16 @@ kept_number r z h = same_true (whole_number r) z (and_right (valid r) (same (who
 
 -- that is so just where the reading has that whole value, within its range
 is_kept : (r : Reading) (z : ℤ) → kept r z ≡ true → (whole_reading r ≡ Ok z) × (within (reading_range r) z ≡ true)
-unfolding whole_number refusal_of
+unfolding whole_number reading_verdict
 is_kept r z h =
-    let i = judged_in r (whole_reading r) refl (eqb-true (refusal_of r) 0 (and_left (valid r) (same (whole_number r) z) h)) in
+    let i = judged_in r (whole_reading r) refl (and_left (valid r) (same (whole_number r) z) h) in
     let value : i.value ≡ z = sym (ap number_of i.whole) ∙ kept_number r z h in
     (i.whole ∙ ap Ok value, sym (ap (within (reading_range r)) value) ∙ i.inside)
 
 pub may_keep : (r : Reading) (z : ℤ) → (whole_reading r ≡ Ok z) × (within (reading_range r) z ≡ true) → kept r z ≡ true
-unfolding whole_number refusal_of
+unfolding whole_number reading_verdict
 may_keep r z (e, h) =
-    and_both (valid r) (same (whole_number r) z) (eq-eqb (refusal_of r) 0 (in_judged r (record { value = z; whole = e; inside = h })))
+    and_both (valid r) (same (whole_number r) z) (in_judged r (record { value = z; whole = e; inside = h }))
     (ap (λ (n : ℤ). same n z) (ap number_of e) ∙ same_self z)
 
 -- so what soundness finds beside six readings are their whole values
@@ -93,7 +93,7 @@ pub wholes_afresh : (b : Bench) → sound b ≡ true → b.wholes ≡ wholes_of 
 wholes_afresh b h = readings_afresh b.readings b.wholes (readings_part b h)
 
 pub reading_laws : ReadingLaws
-unfolding refusal_of whole_reading
+unfolding reading_verdict whole_reading
 reading_laws = record {
   north = λ x n. of_nearest (Reading.Heading x) (pos 360) n;
   heading = λ x z n h. stands (Reading.Heading x) z n (exchanged_other 360 (pos 0) z h);
@@ -105,11 +105,11 @@ reading_laws = record {
   pitch = λ x z n. stands (Reading.Pitch x) z n refl;
   finite = λ s m e. (signed_of s (magnitude_of m e), record { sign = s; digits = m; exponent = e; size = magnitude_of m e; float = refl; nearest = magnitude_nearest m e; signed = refl });
   not_finite = λ r e. ap (of_kind r) e;
-  accepted = λ r. (judged_in r (whole_reading r) refl, in_judged r);
+  accepted = λ r. (λ h. judged_in r (whole_reading r) refl (number_0_is_accepted (reading_verdict r) h), λ i. accepted_is_0 (reading_verdict r) (in_judged r i));
   beside = λ r z. (is_kept r z, may_keep r z);
   afresh = wholes_afresh;
 }
 
 pub reading_examples : ReadingExamples
-unfolding reference_range whole_reading refusal_of whole_number whole_of of_bits
+unfolding reference_range whole_reading reading_verdict whole_number whole_of of_bits
 reading_examples = record { north = refl; headings = refl; inverted = refl; rolls = refl; loaded = refl; others = refl }

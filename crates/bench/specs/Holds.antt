@@ -1,15 +1,15 @@
 -- The bench at a start, of which power-on is one. Document 01, 'What a bench value holds'; document 02, 2026-05 for whole values and 2026-06 for the starting speed.
-use Rattle.std.specs.Prelude.{false, cond, ℕ, ℤ, pos}
+use Rattle.std.specs.Prelude.{false, cond, ℤ, pos, Ok, Err}
 use Rattle.std.specs.Float.Ieee.{of_bits, of_int}
 use Rattle.std.specs.Float.{binary64}
+use Rattle.refusals.specs.declared.Refusal.{Refusal}
 use Rattle.modes.specs.declared.ModeSet.{ModeSet}
 use Rattle.bench.specs.declared.Channel.{Channel}
 use Rattle.bench.specs.declared.Readings.{Readings}
 use Rattle.bench.specs.declared.Wholes.{Wholes}
 use Rattle.bench.specs.declared.Bench.{Bench}
-use Rattle.bench.specs.declared.answers.Answer.{Answer}
+use Rattle.bench.specs.declared.Started.{Started}
 use Rattle.bench.specs.declared.ranges.Range.{Range}
-use Rattle.bench.specs.Answers.{refusal_number}
 use Rattle.bench.specs.Parts.{at_ias, with_reference, zero_references}
 use Rattle.bench.specs.Ranges.{range, within}
 
@@ -56,15 +56,6 @@ power_on = bench_at (pos 120)
 abbrev pub start_speeds : Range
 start_speeds = range (pos 60) (pos 400)
 
--- what a start gives: its refusal, and the bench to begin with
-pub record Started : Type 0 where
-  pub refusal : ℕ
-  pub bench : Bench
-
--- the code's answer as that
-abbrev pub as_started : Answer (Unit {0}) → Started
-as_started a = record { refusal = refusal_number a.outcome; bench = a.bench }
-
 -- a speed outside the range is refused with 10, and the bench is then the default one
 unfoldable pub started : ℤ → Started
-started speed = cond (within start_speeds speed) (record { refusal = 0; bench = bench_at speed }) (record { refusal = 10; bench = power_on })
+started speed = cond (within start_speeds speed) (record { outcome = Ok tt; bench = bench_at speed }) (record { outcome = Err Refusal.StartingSpeed; bench = power_on })

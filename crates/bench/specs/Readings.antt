@@ -1,6 +1,7 @@
 -- Readings. Document 01, 'Readings', and the air data feed's refusals 5 and 6; document 02, 2026-01 and 2026-05.
 use Rattle.std.specs.Prelude.{cond, ℕ, eqb, ℤ, pos, negsuc, Float, Result, Ok, Err}
 use Rattle.rounding.specs.declared.NoWhole.{NoWhole}
+use Rattle.refusals.specs.declared.Refusal.{Refusal}
 use Rattle.rounding.specs.Whole.{whole_of}
 use Rattle.bench.specs.declared.Reading.{Reading}
 use Rattle.bench.specs.declared.Readings.{Readings}
@@ -40,14 +41,19 @@ of_kind r (Ok z) = Ok (wrapped r z)
 unfoldable pub whole_reading : Reading → Result ℤ NoWhole
 whole_reading r = of_kind r (whole_of (float_of r))
 
--- 5 where the float is not finite, 6 where its whole value lies outside the range, else 0: no refusal
-abbrev pub judged : Range → Result ℤ NoWhole → ℕ
-judged r (Err NoWhole.NotFinite) = 5
-judged r (Err NoWhole.Beyond) = 6
-judged r (Ok z) = cond (within r z) 0 6
+-- 5 where the float is infinite or not a number; 6 where its whole value has no place in an answer's integers, and so lies outside every range
+abbrev pub feed_refusal : NoWhole → Refusal
+feed_refusal NoWhole.NotFinite = Refusal.NotFinite
+feed_refusal NoWhole.Beyond = Refusal.OutOfRange
 
-unfoldable pub refusal_of : Reading → ℕ
-refusal_of r = judged (reading_range r) (whole_reading r)
+-- the whole value where it lies within the range, which is judged on it, and else 6
+abbrev pub judged : Range → Result ℤ NoWhole → Result ℤ Refusal
+judged r (Err none) = Err (feed_refusal none)
+judged r (Ok z) = cond (within r z) (Ok z) (Err Refusal.OutOfRange)
+
+-- the whole value of a reading that is accepted, and of any other its refusal, 5 or 6
+unfoldable pub reading_verdict : Reading → Result ℤ Refusal
+reading_verdict r = judged (reading_range r) (whole_reading r)
 
 -- a whole value as a number, and 0 of a float that has none, which is never accepted
 abbrev pub number_of : Result ℤ NoWhole → ℤ

@@ -1,5 +1,5 @@
 -- Sound benches: those that refusal 1 does not name. Document 01, 'Who can be turned away'; document 02 adds independent operation (2026-03) and whole values (2026-05).
-use Rattle.std.specs.Prelude.{Bool, ◌&&◌, ℕ, eqb, leb, ℤ}
+use Rattle.std.specs.Prelude.{Bool, ◌&&◌, ℕ, leb, ℤ, is_ok}
 use Rattle.rounding.specs.Whole.{same}
 use Rattle.modes.specs.Sets.{coherent_set}
 use Rattle.bench.specs.declared.References.{References}
@@ -10,7 +10,7 @@ use Rattle.bench.specs.declared.Reading.{Reading}
 use Rattle.bench.specs.declared.Bench.{Bench}
 use Rattle.bench.specs.Parts.{reference, box}
 use Rattle.bench.specs.Ranges.{within, reference_range}
-use Rattle.bench.specs.Readings.{refusal_of, whole_number}
+use Rattle.bench.specs.Readings.{reading_verdict, whole_number}
 use Rattle.bench.specs.Independent.{independent_sound}
 
 -- the reference at a place is within its range
@@ -23,9 +23,9 @@ references_sound r = in_range 0 r && in_range 1 r && in_range 2 r && in_range 3 
 unfoldable pub channel_sound : Channel → Bool
 channel_sound c = coherent_set c.set && references_sound c.references
 
--- the reading could be accepted: its own refusal is 0
+-- the reading could be accepted: it is not refused with 5 or 6
 abbrev pub valid : Reading → Bool
-valid r = eqb (refusal_of r) 0
+valid r = is_ok (reading_verdict r)
 
 -- and the number kept beside it is its whole value
 abbrev pub kept : Reading → ℤ → Bool

@@ -4,6 +4,7 @@
 use Rattle.std.specs.Prelude.{◌≡◌, ◌↔◌, Bool, true, [], ◌∷◌, map, ℕ, ◌*◌, ℤ, pos, negsuc, Float, Result, Ok, Err}
 use Rattle.std.specs.Float.{fin, binary64}
 use Rattle.std.specs.Float.Ieee.{up, down, of_bits}
+use Rattle.refusals.specs.Refusals.{refusal_number}
 use Rattle.rounding.specs.declared.NoWhole.{NoWhole}
 use Rattle.rounding.specs.Whole.{signed_of, in_answer, whole_of}
 use Rattle.rounding.specs.Fraction.{IsNearest}
@@ -11,7 +12,7 @@ use Rattle.bench.specs.declared.Reading.{Reading}
 use Rattle.bench.specs.declared.Bench.{Bench}
 use Rattle.bench.specs.Parts.{at_roll}
 use Rattle.bench.specs.Ranges.{within, clamped, reading_range, reference_range}
-use Rattle.bench.specs.Readings.{float_of, whole_reading, refusal_of, whole_number, wholes_of}
+use Rattle.bench.specs.Readings.{float_of, whole_reading, reading_verdict, whole_number, wholes_of}
 use Rattle.bench.specs.Sound.{kept, sound}
 
 -- x is a finite float, and z the integer nearest to its exact value, of two such the even one
@@ -47,7 +48,7 @@ pub record ReadingLaws : Type 0 where
   pub finite : (s : Bool) (m : ℕ) (e : ℤ) → (z : ℤ) × Nearest (fin s m e) z
   pub not_finite : (r : Reading) → whole_of (float_of r) ≡ Err NoWhole.NotFinite → whole_reading r ≡ Err NoWhole.NotFinite
   -- just the readings are accepted whose whole value lies within the range of their kind
-  pub accepted : (r : Reading) → (refusal_of r ≡ 0) ↔ WholeInRange r
+  pub accepted : (r : Reading) → (refusal_number (reading_verdict r) ≡ 0) ↔ WholeInRange r
   -- a number may stand beside a reading on a sound bench just where it is the reading's whole value and lies within the range
   pub beside : (r : Reading) (z : ℤ) → (kept r z ≡ true) ↔ ((whole_reading r ≡ Ok z) × (within (reading_range r) z ≡ true))
   -- so the whole values of a sound bench are those that its floats have when rounded afresh
@@ -60,7 +61,7 @@ reading_of kind n = kind (of_bits binary64 n)
 
 -- a reading's whole value and its refusal
 abbrev pub read_as : Reading → Result ℤ NoWhole × ℕ
-read_as r = (whole_reading r, refusal_of r)
+read_as r = (whole_reading r, refusal_number (reading_verdict r))
 
 -- what a roll reading leaves in the roll reference when ROLL engages
 abbrev pub loaded_roll : Reading → ℤ

@@ -1,12 +1,11 @@
 // Readings of the air data feed: their whole values, and which are refused.
-ghost use Rattle.std.specs.Prelude.{◌≡◌, IfOk};
-ghost use Rattle.bench.specs.Answers.{refusal_number};
+ghost use Rattle.std.specs.Prelude.{◌≡◌};
 ghost use Rattle.bench.specs.Private.{is_wrapped, reads_as};
-ghost use Rattle.bench.specs.Readings.{float_of, wrapped, whole_reading, judged, number_of, kind_of};
+ghost use Rattle.bench.specs.Readings.{float_of, wrapped, whole_reading, feed_refusal, judged, reading_verdict, number_of, kind_of};
 
 use crate::Reading;
-use crate::answers::Refusal;
-use crate::ranges::{Range, is_within};
+use crate::ranges::{Range, is_within, reading_range};
+use refusals::Refusal;
 use rounding::NoWhole;
 
 fn float_of(r: Reading) -> f64
@@ -59,17 +58,35 @@ pub(crate) fn reads_as(r: Reading, number: i32) -> bool
     rounding::is_whole_value(float_of(r), number) || is_wrapped(r, number)
 }
 
-// A whole value if it lies within a range, and else its refusal: 5 where there is none, 6 where it lies outside.
-pub fn judge(range: Range, whole: Result<i32, NoWhole>) -> Result<i32, Refusal>
-    ensures refusal { refusal_number result ≡ judged range whole }
-    ensures value { IfOk result (λ v. whole ≡ Ok v) }
+// Why a float that has no whole value is refused: infinity and not a number are no reading, and what is larger than
+// an answer's integers lies outside every range.
+fn feed_refusal(none: NoWhole) -> Refusal
+    ensures { result ≡ feed_refusal none }
 {
-    let v = whole?;
+    match none {
+        NoWhole::NotFinite => Refusal::NotFinite,
+        NoWhole::Beyond => Refusal::OutOfRange,
+    }
+}
+
+// A whole value if it lies within a range, and else its refusal: 5 where there is none, 6 where it lies outside.
+fn judge(range: Range, whole: Result<i32, NoWhole>) -> Result<i32, Refusal>
+    ensures { result ≡ judged range whole }
+{
+    let v = whole.map_err(feed_refusal)?;
     if is_within(range, v) {
         Ok(v)
     } else {
         Err(Refusal::OutOfRange)
     }
+}
+
+// The whole value of a reading that is accepted, and else its refusal, 5 or 6.
+#[tactic(auto, unfolding(crate::specs::Readings::reading_verdict))]
+pub fn verdict(r: Reading) -> Result<i32, Refusal>
+    ensures { result ≡ reading_verdict r }
+{
+    judge(reading_range(r), whole_reading(r))
 }
 
 // A whole value as a number, and 0 where there is none: no such reading is accepted.

@@ -1,25 +1,25 @@
 // The bench value: what it holds at a start, which sides act, and when it is sound. `parts` replaces
 // and reads its parts, `ranges` has the ranges of references and readings, `feed` the readings, and
-// `answers` what is answered.
+// `call` the calls on a bench as data.
 #![tactic(auto)]
 
-pub mod answers;
+pub mod call;
 pub mod feed;
 pub mod parts;
 pub mod ranges;
 
 ghost use Rattle.std.specs.Prelude.{◌≡◌};
-ghost use Rattle.bench.specs.Holds.{start_channel, start_readings, start_wholes, bench_at, power_on, started, as_started};
+ghost use Rattle.bench.specs.Holds.{start_channel, start_readings, start_wholes, bench_at, power_on, started};
 ghost use Rattle.bench.specs.Sides.{acts, other_side};
 ghost use Rattle.bench.specs.Independent.{both_approach, independent_sound};
 ghost use Rattle.bench.specs.Ranges.{reading_range};
 ghost use Rattle.bench.specs.Sound.{references_sound, channel_sound, kept, readings_sound, sound};
 
-use answers::{Answer, Refusal};
 use modes::ModeSet;
 use modes::sets::engages_approach;
 use parts::{HEADING, HELD, IAS, PITCH, PRESELECTED, ROLL, VERTICAL_SPEED, zero_references};
 use ranges::{Range, reference_in_range};
+use refusals::Refusal;
 
 // What the two sides share and an event can change: the PF side, AP, the overspeed flag, and whether
 // independent operation is on, in which both sides act.
@@ -74,8 +74,6 @@ pub struct Readings {
 
 // Their whole values, in the same units as the ranges of the readings. The kinds are numbered 0 to 5 in
 // this order.
-// Stays: document 01 has the readings as a struct of six f64 fields, which fields of a type parameter would not be, and
-// so this one stands beside it.
 #[derive(Clone, Copy)]
 pub struct Wholes {
     pub altitude: i32,
@@ -190,18 +188,25 @@ pub fn power_on() -> Bench
     bench_at(DEFAULT_SPEED)
 }
 
+// What a start gives: whether its speed was accepted, and the bench to begin with.
+#[derive(Clone, Copy)]
+pub struct Started {
+    pub outcome: Result<(), Refusal>,
+    pub bench: Bench,
+}
+
 // A start at a speed in knots; one that is refused gives the default bench.
 #[tactic(auto, unfolding(crate::specs::Holds::started))]
-pub fn start(speed: i32) -> Answer<()>
-    ensures { as_started result ≡ started speed }
+pub fn start(speed: i32) -> Started
+    ensures { result ≡ started speed }
 {
     if ranges::is_within(ranges::STARTING_SPEED, speed) {
-        Answer {
+        Started {
             outcome: Ok(()),
             bench: bench_at(speed),
         }
     } else {
-        Answer {
+        Started {
             outcome: Err(Refusal::StartingSpeed),
             bench: bench_at(DEFAULT_SPEED),
         }
@@ -228,16 +233,16 @@ pub fn side_acts(b: Bench, side: u32) -> bool
 
 // Whether both sides have LAPPR and VAPPR engaged.
 #[tactic(auto, unfolding(crate::specs::Independent::both_approach))]
-pub fn both_approach(b: Bench) -> bool
-    ensures { result ≡ both_approach b }
+pub fn both_approach(b: &Bench) -> bool
+    ensures { result ≡ both_approach b.now }
 {
     engages_approach(b.left.set) && engages_approach(b.right.set)
 }
 
 // Whether independent operation is off, or both sides have what it needs.
 #[tactic(auto, unfolding(crate::specs::Independent::independent_sound))]
-fn independent_sound(b: Bench) -> bool
-    ensures { result ≡ independent_sound b }
+fn independent_sound(b: &Bench) -> bool
+    ensures { result ≡ independent_sound b.now }
 {
     !b.shared.independent || both_approach(b)
 }
@@ -312,13 +317,6 @@ impl Bench {
             && box_sound(&self.left_inbox)
             && box_sound(&self.right_inbox)
             && readings_sound(&self.readings, &self.wholes)
-            && independent_sound(*self)
+            && independent_sound(self)
     }
-}
-
-// The same of a bench that is handed over.
-pub fn is_sound(b: Bench) -> bool
-    ensures { result ≡ sound b }
-{
-    b.is_sound()
 }

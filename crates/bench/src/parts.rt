@@ -1,8 +1,7 @@
 // The parts of a bench: each can be read and replaced, by its number where it has one. A caller that
 // knows the field reads it itself, and replaces it by a struct update.
-// Stays: a side, box, place, knob or kind is a u32 here, since callers may pass any; each function says
-// what the numbers past the last one give. The crate's `ranges` and `feed` and the calls above take such a number too, and
-// their private functions hand it on.
+// A side, box, place, knob or kind is a number here, and any may be passed: each function says what the numbers past the
+// last one give.
 ghost use Rattle.std.specs.Prelude.{◌≡◌};
 ghost use Rattle.bench.specs.Parts.{with_shared, with_counts, with_readings, with_wholes, box, with_box, with_fd, with_set, with_references, with_pf, reference, with_reference, zero_references, count_of, with_count, with_whole};
 ghost use Rattle.bench.specs.Independent.{with_operation};
@@ -33,9 +32,6 @@ pub fn with_shared(b: Bench, shared: Shared) -> Bench
     Bench { shared, ..b }
 }
 
-// Stays: a public function stays. Each caller in this repository writes the struct update itself in place
-// of `with_counts`, `with_readings`, `with_wholes`, `with_fd`, `with_set`, `with_references` and `with_pf`.
-// PartLaws is about the definitions of the first three.
 #[tactic(auto, unfolding(crate::specs::Parts::with_counts))]
 pub fn with_counts(b: Bench, counts: Counts) -> Bench
     ensures { result ≡ with_counts counts b }
@@ -58,8 +54,8 @@ pub fn with_wholes(b: Bench, wholes: Wholes) -> Bench
 }
 
 // A box by its number: 0 the left side, 1 the right side, 2 the left inbox, 3 the right inbox.
-pub fn box_of(b: Bench, number: u32) -> Channel
-    ensures { result ≡ box number b }
+pub fn box_of(b: &Bench, number: u32) -> Channel
+    ensures { result ≡ box number b.now }
 {
     match number {
         0 => b.left,
@@ -206,8 +202,6 @@ pub fn count_of(c: Counts, knob: u32) -> u8
 }
 
 // The counts with another one for a knob; past knob 3 there is none to replace.
-// Stays: `with_reference` and `with_whole` are of the same shape, but each struct has other fields, and each field is
-// named in an arm of its own either way.
 #[tactic(auto, unfolding(crate::specs::Parts::with_count))]
 pub fn with_count(c: Counts, knob: u32, n: u8) -> Counts
     ensures { result ≡ with_count knob n c }

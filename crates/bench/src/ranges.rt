@@ -1,10 +1,10 @@
 // The ranges of references, of readings and of the starting speed, each in this one place.
 ghost use Rattle.std.specs.Prelude.{◌≡◌, ◌+ℤ◌};
 ghost use Rattle.bench.specs.Parts.{reference};
-ghost use Rattle.bench.specs.Ranges.{within, clamped, reference_range};
+ghost use Rattle.bench.specs.Ranges.{within, clamped, reference_range, reading_range};
 
-use crate::References;
 use crate::parts::reference_at;
+use crate::{Reading, References};
 
 // The integers from low to high, both included.
 #[derive(Clone, Copy)]
@@ -37,6 +37,20 @@ pub const HEADING: Range = Range { low: 0, high: 359 };
 
 // The speeds that a start accepts.
 pub const STARTING_SPEED: Range = Range { low: 60, high: 400 };
+
+// The range of a reading's kind.
+pub fn reading_range(r: Reading) -> Range
+    ensures { result ≡ reading_range r }
+{
+    match r {
+        Reading::Altitude(_) => ALTITUDE,
+        Reading::Airspeed(_) => AIRSPEED,
+        Reading::VerticalSpeed(_) => VERTICAL_SPEED,
+        Reading::Roll(_) => ROLL,
+        Reading::Pitch(_) => PITCH,
+        Reading::Heading(_) => HEADING,
+    }
+}
 
 // The range of the reference at a place.
 #[tactic(auto, unfolding(crate::specs::Ranges::reference_range))]

@@ -1,2 +1,2 @@
 pub mod Lamps
-pub mod Answered
+pub mod Accepted

@@ -4,7 +4,7 @@ use Rattle.modes.specs.Numbers.{lateral_law, vertical_law, armed_sum, mode_lamps
 use Rattle.bench.specs.declared.Bench.{Bench}
 use Rattle.bench.specs.Parts.{zero_references}
 use Rattle.bench.specs.Sides.{side}
-use Rattle.calls.specs.declared.answers.Display.{Display}
+use Rattle.calls.specs.declared.reply.Display.{Display}
 
 -- the lamp of PF: 128 while left has it, 256 while right has it
 abbrev pub pf_lamp : ℕ → ℕ

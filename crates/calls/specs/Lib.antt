@@ -1,5 +1,4 @@
 pub mod Sends
 pub mod Displays
-pub mod Answers
 pub mod Calls
-pub mod Private
+pub mod Answers

@@ -1,65 +1,32 @@
-// The calls of the bench. Each takes any bench and any arguments, and answers: an unsound bench is
-// refused with 1 first, then what document 01 names for the call; where a call refuses, its bench
-// stays as it came. `in_place` has the same calls for a caller that keeps the bench where it is, which is quicker.
+// The calls of a bench. Each takes any bench and any arguments, and answers: an unsound bench is refused with 1 first,
+// then what the papers name for the call. An accepted call changes the bench where it lies, and a refused one leaves it.
 #![tactic(auto)]
 
-pub mod answers;
-pub mod call;
-pub mod in_place;
+mod arguments;
+pub mod reply;
+mod sends;
+mod shows;
 
-ghost use Rattle.std.specs.Prelude.{◌≡◌, cond, Ok, IfOk};
-ghost use Rattle.bench.specs.Answers.{refusal_number};
+ghost use Rattle.std.specs.Prelude.{◌≡◌, cond, Err};
+ghost use Rattle.bench.specs.declared.call.Call.{Call};
 ghost use Rattle.bench.specs.Independent.{ended};
 ghost use Rattle.bench.specs.Sound.{sound};
-ghost use Rattle.calls.specs.declared.call.Call.{Call};
-ghost use Rattle.calls.specs.Answers.{as_answer, as_event_answer, as_display_answer};
-ghost use Rattle.calls.specs.Displays.{pf_lamp, lamps, shown};
-ghost use Rattle.calls.specs.Calls.{side_refusal, knob_refusal, word_refusal, answer, event_answer, display_answer};
-ghost use Rattle.calls.specs.Sends.{sent, taken, refreshed};
+ghost use Rattle.refusals.specs.declared.Refusal.{Refusal};
+ghost use Rattle.calls.specs.Calls.{verdict, event_answer, display_answer, reply, next};
 
-use answers::Display;
-use bench::answers::{Answer, Refusal};
-use bench::parts::{box_of, inbox_of, put_box};
-use bench::{Bench, Channel, Reading};
+use bench::call::Call;
+use bench::{Bench, Reading};
+use refusals::Refusal;
+use reply::{Display, Reply};
 
 // What a call's own arguments come to, where the bench is sound: refusal 1 goes before their own.
 fn permitted<T: Copy>(b: &Bench, own: Result<T, Refusal>) -> Result<T, Refusal>
-    ensures refusal { refusal_number result ≡ cond (sound b.now) (refusal_number own) 1 }
-    ensures value { IfOk result (λ v. own ≡ Ok v) }
+    ensures { result ≡ cond (sound b.now) own (Err Refusal.UnsoundBench) }
 {
     if b.is_sound() {
         own
     } else {
         Err(Refusal::UnsoundBench)
-    }
-}
-
-fn known_side(side: u32) -> Result<(), Refusal>
-    ensures { refusal_number result ≡ side_refusal side }
-{
-    if side <= 1 {
-        Ok(())
-    } else {
-        Err(Refusal::UnknownSide)
-    }
-}
-
-fn known_knob(knob: u32) -> Result<(), Refusal>
-    ensures { refusal_number result ≡ knob_refusal knob }
-{
-    match knob {
-        0..=3 => Ok(()),
-        _ => Err(Refusal::UnknownKnob),
-    }
-}
-
-fn known_events(word: u32) -> Result<(), Refusal>
-    ensures { refusal_number result ≡ word_refusal word }
-{
-    if 2097152 <= word {
-        Err(Refusal::UnknownEvent)
-    } else {
-        Ok(())
     }
 }
 
@@ -69,130 +36,118 @@ fn known_events(word: u32) -> Result<(), Refusal>
 fn end_independent(b: &mut Bench)
     ensures { b.new ≡ ended b.old }
 {
-    if !bench::both_approach(*b) {
+    if !bench::both_approach(b) {
         b.shared.independent = false;
     }
 }
 
-#[tactic(auto, unfolding(crate::specs::Sends::sent))]
-fn post(b: &mut Bench, side: u32)
-    ensures { b.new ≡ sent side b.old }
+// An event word: its lowest set bit names the event, and the answer is that event's number, or 32 where no bit is set.
+#[tactic(auto, unfolding(crate::specs::Calls::verdict, crate::specs::Calls::next))]
+pub fn event(b: &mut Bench, word: u32) -> Result<u32, Refusal>
+    ensures answer { result ≡ event_answer b.old word }
+    ensures bench { b.new ≡ next b.old (Call.Event word) }
 {
-    let own = box_of(*b, side);
-    put_box(b, inbox_of(bench::other_side(side)), own);
-}
-
-// A side takes over the set and the references of a box; its flight director stays.
-#[tactic(auto, unfolding(crate::specs::Sends::taken, bench::specs::Parts::with_set, bench::specs::Parts::with_references))]
-fn take(b: &mut Bench, side: u32, source: u32)
-    ensures { b.new ≡ taken source side b.old }
-{
-    let own = box_of(*b, side);
-    let given = box_of(*b, source);
-    let next = Channel {
-        fd: own.fd,
-        ..given
-    };
-    put_box(b, side, next);
-}
-
-#[tactic(auto, unfolding(crate::specs::Sends::refreshed))]
-fn renew(b: &mut Bench, side: u32)
-    ensures { b.new ≡ refreshed side b.old }
-{
-    if bench::side_acts(*b, side) {
-        steps::settle(b, side, steps::second_step(side, *b));
-    } else {
-        take(b, side, inbox_of(side));
-    }
-}
-
-fn pf_lamp(pf: u32) -> u32
-    ensures { result ≡ pf_lamp pf }
-{
-    match pf {
-        0 => 128,
-        _ => 256,
-    }
-}
-
-// The mode lamps of a side, 64 for AP, and 128 or 256 for the side that has PF.
-#[tactic(auto, unfolding(crate::specs::Displays::lamps))]
-fn lamps_of(b: Bench, side: u32) -> u32
-    ensures { result ≡ lamps b side }
-{
-    let modes_lit = modes::numbers::mode_lamps(box_of(b, side).set);
-    modes_lit + modes::numbers::worth(b.shared.ap, 64) + pf_lamp(b.shared.pf)
-}
-
-#[tactic(auto, unfolding(crate::specs::Displays::shown))]
-fn show(b: Bench, side: u32) -> Display
-    ensures { result ≡ shown b side }
-{
-    let c = box_of(b, side);
-    Display {
-        fd: c.fd,
-        lateral: modes::numbers::lateral_law(c.set),
-        vertical: modes::numbers::vertical_law(c.set),
-        armed: modes::numbers::armed_sum(c.set),
-        references: c.references,
-        lamps: lamps_of(b, side),
-    }
-}
-
-// ---- the calls of a bench that is handed over and handed back
-
-// An event word: its lowest set bit names the event.
-pub fn event(b: Bench, word: u32) -> Answer<u32>
-    ensures { as_event_answer result ≡ event_answer b word }
-{
-    let mut bench = b;
-    let outcome = in_place::event(&mut bench, word);
-    Answer { outcome, bench }
+    permitted(b, arguments::word(word))?;
+    let number = word.trailing_zeros();
+    steps::act(events::event_at(number), b);
+    end_independent(b);
+    Ok(number)
 }
 
 // A knob's new count.
-pub fn turn(b: Bench, knob: u32, new: u8) -> Answer<()>
-    ensures { as_answer result ≡ answer b (Call.Turn knob new) }
+#[tactic(auto, unfolding(crate::specs::Calls::verdict, crate::specs::Calls::next))]
+pub fn turn(b: &mut Bench, knob: u32, new: u8) -> Result<(), Refusal>
+    ensures answer { result ≡ verdict b.old (Call.Turn knob new) }
+    ensures bench { b.new ≡ next b.old (Call.Turn knob new) }
 {
-    let mut bench = b;
-    let outcome = in_place::turn(&mut bench, knob, new);
-    Answer { outcome, bench }
+    permitted(b, arguments::knob(knob))?;
+    knobs::turn_to(b, knob, new);
+    end_independent(b);
+    Ok(())
 }
 
-// A reading of the air data feed.
-pub fn reading(b: Bench, r: Reading) -> Answer<()>
-    ensures { as_answer result ≡ answer b (Call.Reading r) }
+// A reading of the air data feed: its float and its whole value take the place of the last ones of its kind.
+#[tactic(auto, unfolding(crate::specs::Calls::verdict, crate::specs::Calls::next, crate::specs::Calls::received))]
+pub fn reading(b: &mut Bench, r: Reading) -> Result<(), Refusal>
+    ensures answer { result ≡ verdict b.old (Call.Reading r) }
+    ensures bench { b.new ≡ next b.old (Call.Reading r) }
 {
-    let mut bench = b;
-    let outcome = in_place::reading(&mut bench, r);
-    Answer { outcome, bench }
+    let whole = permitted(b, bench::feed::verdict(r))?;
+    match r {
+        Reading::Altitude(altitude) => {
+            b.readings.altitude = altitude;
+            b.wholes.altitude = whole;
+        }
+        Reading::Airspeed(airspeed) => {
+            b.readings.airspeed = airspeed;
+            b.wholes.airspeed = whole;
+        }
+        Reading::VerticalSpeed(vertical_speed) => {
+            b.readings.vertical_speed = vertical_speed;
+            b.wholes.vertical_speed = whole;
+        }
+        Reading::Roll(roll) => {
+            b.readings.roll = roll;
+            b.wholes.roll = whole;
+        }
+        Reading::Pitch(pitch) => {
+            b.readings.pitch = pitch;
+            b.wholes.pitch = whole;
+        }
+        Reading::Heading(heading) => {
+            b.readings.heading = heading;
+            b.wholes.heading = whole;
+        }
+    }
+    end_independent(b);
+    Ok(())
 }
 
 // What a side holds goes to the other side's inbox.
-pub fn send(b: Bench, side: u32) -> Answer<()>
-    ensures { as_answer result ≡ answer b (Call.Send side) }
+#[tactic(auto, unfolding(crate::specs::Calls::verdict, crate::specs::Calls::next))]
+pub fn send(b: &mut Bench, side: u32) -> Result<(), Refusal>
+    ensures answer { result ≡ verdict b.old (Call.Send side) }
+    ensures bench { b.new ≡ next b.old (Call.Send side) }
 {
-    let mut bench = b;
-    let outcome = in_place::send(&mut bench, side);
-    Answer { outcome, bench }
+    permitted(b, arguments::side(side))?;
+    sends::post(b, side);
+    end_independent(b);
+    Ok(())
 }
 
 // A side that does not act takes over what was sent to it last; one that acts applies the On rule.
-pub fn refresh(b: Bench, side: u32) -> Answer<()>
-    ensures { as_answer result ≡ answer b (Call.Refresh side) }
+#[tactic(auto, unfolding(crate::specs::Calls::verdict, crate::specs::Calls::next))]
+pub fn refresh(b: &mut Bench, side: u32) -> Result<(), Refusal>
+    ensures answer { result ≡ verdict b.old (Call.Refresh side) }
+    ensures bench { b.new ≡ next b.old (Call.Refresh side) }
 {
-    let mut bench = b;
-    let outcome = in_place::refresh(&mut bench, side);
-    Answer { outcome, bench }
+    permitted(b, arguments::side(side))?;
+    sends::renew(b, side);
+    end_independent(b);
+    Ok(())
 }
 
-// What a side shows. The bench stays as it is.
-pub fn display(b: Bench, side: u32) -> Answer<Display>
-    ensures { as_display_answer result ≡ display_answer b side }
+// What a side shows.
+#[tactic(auto, unfolding(crate::specs::Calls::verdict))]
+pub fn display(b: &Bench, side: u32) -> Result<Display, Refusal>
+    ensures { result ≡ display_answer b.now side }
 {
-    Answer {
-        outcome: in_place::display(&b, side),
-        bench: b,
+    permitted(b, arguments::side(side))?;
+    Ok(shows::show(b, side))
+}
+
+// A call that is data.
+#[tactic(auto, unfolding(crate::specs::Calls::verdict, crate::specs::Calls::next))]
+pub fn apply(b: &mut Bench, call: Call) -> Result<Reply, Refusal>
+    ensures answer { result ≡ reply b.old call }
+    ensures bench { b.new ≡ next b.old call }
+{
+    match call {
+        Call::Event(word) => Ok(Reply::Event(event(b, word)?)),
+        Call::Turn(knob, new) => turn(b, knob, new).and(Ok(Reply::Done)),
+        Call::Reading(r) => reading(b, r).and(Ok(Reply::Done)),
+        Call::Send(side) => send(b, side).and(Ok(Reply::Done)),
+        Call::Refresh(side) => refresh(b, side).and(Ok(Reply::Done)),
+        Call::Display(side) => Ok(Reply::Shown(display(b, side)?)),
     }
 }

@@ -1,6 +1,5 @@
 // What each event does to an On set. The paper's rules are in modes/specs/Events.antt; here they go
 // by the modes that are engaged and by what is armed.
-// Stays: a mode is held in a local for its match, as document 01 has it.
 #![tactic(auto)]
 
 ghost use Rattle.std.specs.Prelude.{◌≡◌, cond};
@@ -115,7 +114,6 @@ pub fn engage_pitch(m: Modes) -> Modes
 }
 
 // 2: FLC, unless ALT or ALTSEL is engaged or the flag was set already.
-// Stays: three of fifteen changes ask for the flag, so it is no part of what a change is made of.
 fn overspeed_begins(flag: bool, m: Modes) -> Modes
     ensures { result ≡ overspeed flag m }
 {
@@ -202,8 +200,6 @@ fn altsel_on_track(m: Modes) -> Modes
 }
 
 // 14
-// Stays: document 01 wants modes decided by a match, and a pattern takes no parameter. So the switches of HDG, VS and
-// ALT are not one function of a mode; a match on a pair of modes would name each mode once more.
 fn hdg_switch(m: Modes) -> Modes
     ensures { result ≡ switch HDG m }
 {

@@ -6,7 +6,10 @@ use Prim.Native.Nat.{ℕ, ◌≤◌}
 use borrow.Author.Tests.{ne_eqb}
 use lib.Dec.{eqb}
 use lib.IntN.{ℤ, pos}
+use Rattle.std.specs.Prelude.{Err}
+use Rattle.refusals.specs.declared.Refusal.{Refusal}
 use Rattle.bench.specs.declared.Bench.{Bench}
+use Rattle.bench.specs.declared.call.Call.{Call}
 use Rattle.bench.specs.declared.Channel.{Channel}
 use Rattle.bench.specs.Holds.{bench_at, power_on, start_speeds, started}
 use Rattle.bench.specs.Ranges.{within}
@@ -14,9 +17,9 @@ use Rattle.bench.specs.Sides.{other_side, side, inbox}
 use Rattle.bench.specs.Sound.{sound}
 use Rattle.bench.proofs.Replaced.{by_side}
 use Rattle.bench.proofs.StartLaws.{at_sound, by_start}
-use Rattle.calls.specs.declared.answers.Display.{Display}
-use Rattle.calls.specs.declared.call.Call.{Call}
-use Rattle.calls.specs.Calls.{refusal, next, answer, event_answer, display_answer, reply}
+use Rattle.calls.specs.declared.reply.Display.{Display}
+use Rattle.calls.specs.Calls.{verdict, next, reply}
+use Rattle.calls.specs.Answers.{tells}
 use Rattle.soundness.proofs.Kept.{next_sound}
 use Rattle.claim.specs.Lists.{after, transfers, refreshes, sends, pilot_from, pilot_flying, None, OffThroughout}
 use Rattle.claim.specs.Claim.{display_from, SameShown, ShowsHeld, turned_away, PassiveRule, Claim, ClaimFrom, Refused, Claims}
@@ -35,7 +38,7 @@ module _ (start : Bench) (sound_start : sound start ≡ true) where
   pilot_from_lem cs = after_pilot cs start sound_start
 
   -- a display of a side after a list shows what a channel with the same set and references holds
-  shows : (cs : List Call) (s : ℕ) → s ≤ 1 → (c : Channel) → Same (side (after start cs) s) c → ShowsHeld c (display_from start cs s).display
+  shows : (cs : List Call) (s : ℕ) → s ≤ 1 → (c : Channel) → Same (side (after start cs) s) c → ShowsHeld c (display_from start cs s).value
   shows cs s hs c e = rw (display_shown (after start cs) (sound_from cs) s hs) (shows_held (after start cs) s c e)
 
   -- ---- the passive side's rule, for a side s and the calls ahead of its last refresh
@@ -43,7 +46,7 @@ module _ (start : Bench) (sound_start : sound start ≡ true) where
   module _ (s : ℕ) (hs : s ≤ 1) (pre post : List Call) (off : OffThroughout (after start pre) (Call.Refresh s ∷ post)) (passive : pilot_from start.shared.pf pre ≡ s → ⊥)
       (last : None (refreshes s) post) (kept : None transfers post) where
     -- s shows what its inbox held at the refresh
-    shows_inbox : ShowsHeld (inbox (after start pre) s) (display_from start (pre ++ (Call.Refresh s ∷ post)) s).display
+    shows_inbox : ShowsHeld (inbox (after start pre) s) (display_from start (pre ++ (Call.Refresh s ∷ post)) s).value
     shows_inbox =
         let b = after start pre in
         let h = sound_from pre in
@@ -64,9 +67,9 @@ module _ (start : Bench) (sound_start : sound start ≡ true) where
 
   -- the rule for a split of a list, with what an unsent side shows told by the inbox at the start
   passive_from : (cs : List Call) (s : ℕ) → s ≤ 1 → (pre post : List Call) → cs ≡ pre ++ (Call.Refresh s ∷ post) → OffThroughout (after start pre) (Call.Refresh s ∷ post)
-      → PassiveRule start (pilot_from start.shared.pf) (λ s d. ShowsHeld (inbox start s) d) s pre post (display_from start cs s).display
+      → PassiveRule start (pilot_from start.shared.pf) (λ s d. ShowsHeld (inbox start s) d) s pre post (display_from start cs s).value
   passive_from cs s hs pre post e o p r t =
-      let d = (display_from start (pre ++ (Call.Refresh s ∷ post)) s).display in
+      let d = (display_from start (pre ++ (Call.Refresh s ∷ post)) s).value in
       let now-held = shows_inbox s hs pre post o p r t in
       rw e
       (record {
@@ -106,7 +109,7 @@ module _ (n : ℕ) (accepted : within start_speeds (pos n) ≡ true) where
   -- so that the rule is the one told by the other side's display at the start
   of_start : (s : ℕ) → s ≤ 1 → (pre post : List Call) (d : Display)
       → PassiveRule start pilot_flying (λ s d. ShowsHeld (inbox start s) d) s pre post d
-      → PassiveRule start pilot_flying (λ s d. SameShown d (display_from start [] (other_side s)).display) s pre post d
+      → PassiveRule start pilot_flying (λ s d. SameShown d (display_from start [] (other_side s)).value) s pre post d
   of_start s hs pre post d rule p r t =
       let shown = rule p r t in
       record {
@@ -141,20 +144,30 @@ claim_power_on = claim (pos 120)
 
 -- ---- from an unsound bench
 
-unsound_reply : (b : Bench) → sound b ≡ false → (c : Call) → reply b c ≡ turned_away c
-unfolding refusal answer event_answer display_answer
-unsound_reply b h (Call.Event word) = rw h
-unsound_reply b h (Call.Turn knob n) = rw h
-unsound_reply b h (Call.Reading r) = rw h
-unsound_reply b h (Call.Send s) = rw h
-unsound_reply b h (Call.Refresh s) = rw h
-unsound_reply b h (Call.Display s) = rw h
+unsound_reply : (b : Bench) (c : Call) → sound b ≡ false → reply b c ≡ Err Refusal.UnsoundBench
+unfolding verdict
+unsound_reply b c h = rw h
+
+-- and that tells 1, with what stands beside a refusal
+unsound_tells : (b : Bench) (c : Call) → sound b ≡ false → tells b c ≡ turned_away c
+unfolding verdict
+unsound_tells b (Call.Event word) h = rw h
+unsound_tells b (Call.Turn knob n) h = rw h
+unsound_tells b (Call.Reading r) h = rw h
+unsound_tells b (Call.Send s) h = rw h
+unsound_tells b (Call.Refresh s) h = rw h
+unsound_tells b (Call.Display s) h = rw h
 
 pub refused_from : (start : Bench) → sound start ≡ false → (cs : List Call) → Refused start cs
-refused_from start h [] = record { same_bench = refl; answers = refl }
+refused_from start h [] = record { same_bench = refl; answers = refl; refusals = refl }
 refused_from start h (c ∷ cs) =
     let more = refused_from start h cs in
-    record { same_bench = rw (unsound_next start c h) more.same_bench; answers = rw (unsound_next start c h) (cc (unsound_reply start h c, more.answers)) }
+    let stays = unsound_next start c h in
+    record {
+      same_bench = rw stays more.same_bench;
+      answers = rw stays (cc (unsound_tells start c h, more.answers));
+      refusals = rw stays (cc (unsound_reply start c h, more.refusals));
+    }
 
 pub claims : Claims
 claims = record { from_start = claim; from_power_on = claim_power_on; from_sound = claim_from; from_unsound = refused_from }

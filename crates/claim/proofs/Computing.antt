@@ -10,13 +10,13 @@ use Rattle.bench.specs.Sides.{acts}
 use Rattle.bench.specs.Independent.{both_approach, independent_sound, with_operation, begun, ended}
 use Rattle.bench.specs.Holds.{start_channel, bench_at, power_on, started}
 use Rattle.bench.specs.Ranges.{reference_range}
-use Rattle.bench.specs.Readings.{whole_reading, refusal_of, whole_number, stored, stored_whole}
+use Rattle.bench.specs.Readings.{whole_reading, reading_verdict, whole_number, stored, stored_whole}
 use Rattle.bench.specs.Sound.{references_sound, channel_sound, readings_sound, sound}
 use Rattle.steps.specs.Entry.{loaded, entry, enter, settled}
 use Rattle.steps.specs.Steps.{shared_after, asks_for, sets_fd, fd_after, with_fd_after, first_step, is_on, second_step, third_step, later_steps, three_steps, acted}
 use Rattle.knobs.specs.Knobs.{counted, moved, referred, reference_moved, pitched, wheel_turned, altitude_turned, heading_moved, heading_turned, knob_turned, turned}
 use Rattle.calls.specs.Displays.{lamps, shown}
-use Rattle.calls.specs.Calls.{refusal, received, next, answer, event_answer, display_answer}
+use Rattle.calls.specs.Calls.{verdict, received, next}
 use Rattle.calls.specs.Sends.{sent, taken, refreshed}
 
 -- mode sets and their changes
@@ -34,7 +34,7 @@ unfolding with_shared with_counts with_readings with_wholes with_box with_fd wit
 parts = tt
 
 unfoldable benches : Unit {0}
-unfolding of_bits of_int whole_of reference_range whole_reading refusal_of whole_number stored stored_whole references_sound channel_sound readings_sound sound
+unfolding of_bits of_int whole_of reference_range whole_reading reading_verdict whole_number stored stored_whole references_sound channel_sound readings_sound sound
 benches = tt
 
 -- the steps of an event, and knobs
@@ -48,5 +48,5 @@ knobs = tt
 
 -- the calls
 unfoldable pub rules : Unit {0}
-unfolding sets changes parts benches steps knobs lamps shown sent taken refreshed refusal received next answer event_answer display_answer
+unfolding sets changes parts benches steps knobs lamps shown sent taken refreshed verdict received next
 rules = tt

@@ -9,11 +9,13 @@ use lib.Dec.{eqb}
 use lib.IntN.{ℤ}
 use lib.Ieee.Bits.{is_true}
 use lib.Count.{count_trailing_zeros}
+use Rattle.std.specs.Prelude.{Ok}
 use Rattle.modes.specs.declared.ModeSet.{ModeSet}
 use Rattle.modes.specs.Sets.{ALTSEL, LAPPR, implies, engaged, engaged_in, approach_engaged}
 use Rattle.modes.proofs.Every.{at_sets}
 use Rattle.bench.specs.declared.References.{References}
 use Rattle.bench.specs.declared.Bench.{Bench}
+use Rattle.bench.specs.declared.call.Call.{Call}
 use Rattle.bench.specs.Parts.{with_shared, with_counts, with_box, with_references, count_of}
 use Rattle.bench.specs.Sides.{side}
 use Rattle.bench.specs.Independent.{both_approach, with_operation, begun, ended}
@@ -24,8 +26,7 @@ use Rattle.soundness.proofs.Kept.Changes.{either, acting}
 use Rattle.bench.proofs.Independent.{same_operation, sound_off, sound_stays}
 use Rattle.steps.specs.Steps.{acted}
 use Rattle.knobs.specs.Knobs.{referred, reference_moved, wheel_turned, altitude_turned, heading_turned, knob_turned, counted, turned}
-use Rattle.calls.specs.declared.call.Call.{Call}
-use Rattle.calls.specs.Calls.{refusal, done, next, event_answer}
+use Rattle.calls.specs.Calls.{verdict, done, next, event_answer}
 use Rattle.claim.specs.Lists.{accepted, transfers}
 use Rattle.claim.specs.Independent.{IndependentLaws}
 use Rattle.claim.proofs.Sides.{turned_passive, ended_off}
@@ -102,9 +103,9 @@ switch_bench b h = go (both_approach b) refl
     go true e = pair_stays (with_operation true b) (unfold with_operation with_shared both_approach in e)
     go false e = sound_stays b h ∙ sym (same_operation b false (sound_off b h e))
 
-switch_answer : (b : Bench) → sound b ≡ true → event_answer b 1048576 ≡ record { refusal = 0; event = 20; bench = with_operation (both_approach b) b }
-unfolding event_answer next refusal acted count_trailing_zeros
-switch_answer b h = rw (h, switch_bench b h)
+switch_law : (b : Bench) → sound b ≡ true → (event_answer b 1048576 ≡ Ok 20) × (next b (Call.Event 1048576) ≡ with_operation (both_approach b) b)
+unfolding verdict next acted count_trailing_zeros
+switch_law b h = rw h (refl, switch_bench b h)
 
 -- ---- a transfer
 
@@ -121,7 +122,7 @@ transfer_ends b (Call.Display s) h t = cc
 
 pub independent_laws : IndependentLaws
 independent_laws = record {
-  switch = switch_answer;
+  switch = switch_law;
   only_switch = λ b c h k o. (step c b h).off k o;
   never_on = λ b cs h o n. never_on cs b h o n;
   turn = turn_keeps;

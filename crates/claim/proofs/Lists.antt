@@ -4,16 +4,19 @@ use mathlib.Core.Bool.{true, false}
 use mathlib.Core.List.{List, [], ◌∷◌, ◌++◌, map}
 use Prim.Native.Nat.{ℕ, ◌≤◌}
 use lib.Dec.{eqb}
+use Rattle.refusals.specs.declared.Told.{Told}
+use Rattle.refusals.specs.Refusals.{refusal_number}
 use Rattle.bench.specs.declared.Bench.{Bench}
+use Rattle.bench.specs.declared.call.Call.{Call}
 use Rattle.bench.specs.Sides.{other_side, side, inbox, acts}
 use Rattle.bench.specs.Sound.{sound}
-use Rattle.calls.specs.declared.call.Call.{Call}
-use Rattle.calls.specs.Calls.{refusal_in, next, own_refusal}
+use Rattle.calls.specs.declared.reply.Reply.{Reply}
+use Rattle.calls.specs.Calls.{own_verdict, next}
 use Rattle.soundness.proofs.Kept.{next_sound}
-use Rattle.claim.specs.Lists.{after, replies, transfers, refreshes, sends, asks_independent, pilot_from, None, OffThroughout}
+use Rattle.claim.specs.Lists.{after, all_told, transfers, refreshes, sends, asks_independent, pilot_from, None, OffThroughout}
 use Rattle.claim.specs.Claim.{Served}
 use Rattle.claim.proofs.Sides.{Same, same, same_trans}
-use Rattle.claim.proofs.OneCall.{own_refusal_lem, own_not_1, step}
+use Rattle.claim.proofs.OneCall.{own_refusal, own_not_1, step}
 
 pub after_append : (pre post : List Call) (b : Bench) → after b (pre ++ post) ≡ after (after b pre) post
 after_append [] post b = refl
@@ -23,13 +26,13 @@ pub after_sound : (cs : List Call) (b : Bench) → sound b ≡ true → sound (a
 after_sound [] b h = h
 after_sound (c ∷ cs) b h = after_sound cs (next b c) (next_sound b c h)
 
-pub after_refusals : (cs : List Call) (b : Bench) → sound b ≡ true → map refusal_in (replies b cs) ≡ map own_refusal cs
+pub after_refusals : (cs : List Call) (b : Bench) → sound b ≡ true → map (λ (t : Told Reply). t.refusal) (all_told b cs) ≡ map (λ (c : Call). refusal_number (own_verdict c)) cs
 after_refusals [] b h = refl
-after_refusals (c ∷ cs) b h = cc (own_refusal_lem b c h, after_refusals cs (next b c) (next_sound b c h))
+after_refusals (c ∷ cs) b h = cc (own_refusal b c h, after_refusals cs (next b c) (next_sound b c h))
 
-pub after_served : (cs : List Call) (b : Bench) → sound b ≡ true → Served (replies b cs)
+pub after_served : (cs : List Call) (b : Bench) → sound b ≡ true → Served (all_told b cs)
 after_served [] b h = tt
-after_served (c ∷ cs) b h = (λ e. own_not_1 c (sym (own_refusal_lem b c h) ∙ e), after_served cs (next b c) (next_sound b c h))
+after_served (c ∷ cs) b h = (λ e. own_not_1 c (sym (own_refusal b c h) ∙ e), after_served cs (next b c) (next_sound b c h))
 
 -- PF is moved by the transfers alone
 pub after_pilot : (cs : List Call) (b : Bench) → sound b ≡ true → (after b cs).shared.pf ≡ pilot_from b.shared.pf cs

@@ -8,25 +8,31 @@ use lib.Dec.{eqb}
 use lib.Ieee.Bits.{is_true}
 use lib.ListN.{drop}
 use lib.Count.{count_trailing_zeros}
+use lib.IntN.{ℤ}
+use Rattle.std.specs.Prelude.{Result, Ok, Err, is_ok}
+use Rattle.std.specs.Result.{result_and}
+use Rattle.refusals.specs.declared.Refusal.{Refusal}
+use Rattle.refusals.specs.Refusals.{refusal_number, Verdict}
+use Rattle.refusals.specs.Told.{told}
 use Rattle.rounding.specs.declared.NoWhole.{NoWhole}
-use Rattle.std.proofs.Common.{Result, Ok, Err, ℤ}
 use Rattle.modes.specs.declared.Event.{Event}
 use Rattle.modes.proofs.Finite.{every_pick, pick_past}
 use Rattle.modes.proofs.Laws.{mode_laws}
 use Rattle.modes.specs.Events.{numbered, event_at, event_number, is_none, is_independent, line_of}
 use Rattle.bench.specs.declared.Bench.{Bench}
+use Rattle.bench.specs.declared.call.Call.{Call}
 use Rattle.bench.specs.declared.ranges.Range.{Range}
 use Rattle.bench.specs.Parts.{with_shared, with_readings, with_wholes, with_box, with_fd, with_set, with_references}
 use Rattle.bench.specs.Ranges.{within, reading_range}
-use Rattle.bench.specs.Readings.{whole_reading, judged, refusal_of}
+use Rattle.bench.specs.Readings.{whole_reading, judged, reading_verdict}
 use Rattle.bench.specs.Sides.{other_side, inbox_of, side, inbox, acts}
 use Rattle.bench.specs.Independent.{ended}
 use Rattle.bench.specs.Sound.{sound}
 use Rattle.bench.proofs.Replaced.{by_side}
 use Rattle.steps.proofs.ByEvent.{by_event}
 use Rattle.steps.specs.Steps.{shared_after, with_fd_after, first_step, later_steps, three_steps, acted}
-use Rattle.calls.specs.declared.call.Call.{Call}
-use Rattle.calls.specs.Calls.{side_refusal, own_refusal, refusal, received, done, next, answer, event_answer, display_answer, refusal_in, reply}
+use Rattle.calls.specs.Calls.{side_verdict, own_verdict, verdict, received, done, next}
+use Rattle.calls.specs.Answers.{tells}
 use Rattle.calls.specs.Sends.{sent, taken, refreshed}
 use Rattle.bench.proofs.SoundParts.{by_cond}
 use Rattle.soundness.proofs.Kept.Changes.{either}
@@ -36,32 +42,32 @@ use Rattle.claim.proofs.Sides.{Same, same, same_trans, box_other, box_written, w
 
 -- ---- refusals
 
+-- an answer tells the number of the verdict that it hangs on
+told_number : {T : Type 0} (beside x : T) (v : Verdict) → (told beside (result_and v (Ok x))).refusal ≡ refusal_number v
+told_number beside x (Ok y) = refl
+told_number beside x (Err r) = refl
+
 -- on a sound bench a call is refused for its own arguments only
-pub own_refusal_lem : (b : Bench) (c : Call) → sound b ≡ true → refusal_in (reply b c) ≡ own_refusal c
-unfolding answer event_answer display_answer refusal
-own_refusal_lem b (Call.Event word) h = rw h
-own_refusal_lem b (Call.Turn knob n) h = rw h
-own_refusal_lem b (Call.Reading r) h = rw h
-own_refusal_lem b (Call.Send s) h = rw h
-own_refusal_lem b (Call.Refresh s) h = rw h
-own_refusal_lem b (Call.Display s) h = rw h
+pub own_refusal : (b : Bench) (c : Call) → sound b ≡ true → (tells b c).refusal ≡ refusal_number (own_verdict c)
+unfolding verdict
+own_refusal b c h = rw h (told_number _ _ (own_verdict c))
 
 -- and does what its kind says if it is accepted, and nothing if not
 pub next_is : (b : Bench) (c : Call) → sound b ≡ true → next b c ≡ cond (accepted c) (ended (done c b)) b
-unfolding next refusal
+unfolding next verdict
 next_is b c h = rw h
 
-abbrev Not1 : ℕ → Type 0
-Not1 n = n ≡ 1 → ⊥
+abbrev Not1 : Verdict → Type 0
+Not1 v = refusal_number v ≡ 1 → ⊥
 
-judged_not_1 : (r : Range) (w : Result ℤ NoWhole) → Not1 (judged r w)
+judged_not_1 : (r : Range) (w : Result ℤ NoWhole) → Not1 (result_and (judged r w) (Ok tt))
 judged_not_1 r (Err NoWhole.NotFinite) = λ e. omega arith
 judged_not_1 r (Err NoWhole.Beyond) = λ e. omega arith
-judged_not_1 r (Ok z) = either Not1 (within r z) 0 6 (λ e. omega arith) (λ e. omega arith)
+judged_not_1 r (Ok z) = either (λ (x : Result ℤ Refusal). Not1 (result_and x (Ok tt))) (within r z) _ _ (λ e. omega arith) (λ e. omega arith)
 
 -- no call's own arguments give refusal 1
-pub own_not_1 : (c : Call) → Not1 (own_refusal c)
-unfolding refusal_of
+pub own_not_1 : (c : Call) → Not1 (own_verdict c)
+unfolding reading_verdict
 own_not_1 (Call.Event word) = λ e. grind (arith, nat_tests)
 own_not_1 (Call.Turn knob n) = λ e. grind (arith, nat_tests)
 own_not_1 (Call.Reading r) = judged_not_1 (reading_range r) (whole_reading r)
@@ -70,10 +76,10 @@ own_not_1 (Call.Refresh s) = λ e. grind (arith, nat_tests)
 own_not_1 (Call.Display s) = λ e. grind (arith, nat_tests)
 
 -- a side that is accepted is a side
-is_side : (s : ℕ) → eqb (side_refusal s) 0 ≡ true → s ≤ 1
+is_side : (s : ℕ) → is_ok (side_verdict s) ≡ true → s ≤ 1
 is_side s e = grind (arith, nat_tests)
 
-pub side_accepted : (s : ℕ) → s ≤ 1 → side_refusal s ≡ 0
+pub side_accepted : (s : ℕ) → s ≤ 1 → side_verdict s ≡ Ok tt
 side_accepted s h = rw (le-leb s 1 h)
 
 -- ---- events
@@ -258,5 +264,5 @@ refreshed_side s hs b h n =
 -- ---- on an unsound bench every call is refused with 1, and hands the bench back
 
 pub unsound_next : (b : Bench) (c : Call) → sound b ≡ false → next b c ≡ b
-unfolding next refusal
+unfolding next verdict
 unsound_next b c h = rw h

@@ -7,7 +7,7 @@ use Prim.Native.Nat.{ℕ, zero, suc, ◌≤◌}
 use native.Mathlib.Omega.{arith}
 use borrow.Author.Tests.{eqb-true}
 use Rattle.bench.proofs.SoundParts.{and_right}
-use Rattle.calls.specs.declared.call.Call.{Call}
+use Rattle.bench.specs.declared.call.Call.{Call}
 use Rattle.claim.specs.Lists.{accepted, refreshes, sends, None}
 use Rattle.claim.specs.Reached.{Lateral, Vertical, TurnsOn, Ends, Speaks, SpeaksUnsent, SpeaksAgain, Silent, Last, Reached}
 use Rattle.claim.proofs.Computing.{rules}

@@ -6,6 +6,8 @@ use native.Mathlib.Omega.{arith}
 use borrow.Author.Tests.{eqb-true, eqb-false, eq-eqb, not-true}
 use lib.Dec.{T, eqb}
 use lib.Ieee.Bits.{is_true}
+use Rattle.std.specs.Prelude.{Ok}
+use Rattle.refusals.specs.Told.{told}
 use Rattle.modes.specs.declared.Modes.{Modes}
 use Rattle.modes.specs.declared.ModeSet.{ModeSet}
 use Rattle.modes.specs.Every.{every_modes}
@@ -19,9 +21,9 @@ use Rattle.bench.specs.declared.Bench.{Bench}
 use Rattle.bench.specs.Sides.{side}
 use Rattle.bench.specs.Sound.{sound}
 use Rattle.bench.proofs.Replaced.{by_side}
-use Rattle.calls.specs.declared.answers.Display.{Display}
-use Rattle.calls.specs.Displays.{shown}
-use Rattle.calls.specs.Calls.{refusal, display_answer}
+use Rattle.calls.specs.declared.reply.Display.{Display}
+use Rattle.calls.specs.Displays.{shown, blank}
+use Rattle.calls.specs.Calls.{verdict, display_answer}
 use Rattle.soundness.proofs.Kept.{on_laws}
 use Rattle.bench.specs.Independent.{both_approach, independent_sound}
 use Rattle.bench.proofs.SoundParts.{and_left, and_right, parts, independent_part}
@@ -82,18 +84,17 @@ keeps_set (ModeSet.On m) fd r n h = record {
 -- ---- the display of a sound bench
 
 module _ (b : Bench) (h : sound b ≡ true) (s : ℕ) (hs : s ≤ 1) where
-  pub display_refusal : (display_answer b s).refusal ≡ 0
-  unfolding display_answer refusal
-  display_refusal = rw (h, side_accepted s hs)
-
-  pub display_shown : (display_answer b s).display ≡ shown b s
-  unfolding display_answer refusal
+  pub display_shown : display_answer b s ≡ Ok (shown b s)
+  unfolding verdict
   display_shown = rw (h, side_accepted s hs)
+
+  pub display_refusal : (told blank (display_answer b s)).refusal ≡ 0
+  display_refusal = rw display_shown
 
   side_coherent : coherent_set (side b s).set ≡ true
   side_coherent = by_side (λ (s : ℕ). coherent_set (side b s).set ≡ true) (parts b h).left.set (parts b h).right.set s hs
 
-  pub display_keeps : Keeps (not (is_off (side b s).set)) (display_answer b s).display
+  pub display_keeps : Keeps (not (is_off (side b s).set)) (told blank (display_answer b s)).value
   unfolding shown
   display_keeps = rw display_shown (keeps_set (side b s).set _ _ _ side_coherent)
 
@@ -108,7 +109,7 @@ side_approach b h on s hs =
     by_side (λ (s : ℕ). approach_engaged (side b s).set ≡ true) (and_left _ (approach_engaged (side b 1).set) both) (and_right (approach_engaged (side b 0).set) _ both) s hs
 
 pub display_approach : (b : Bench) → sound b ≡ true → (s : ℕ) → s ≤ 1 → b.shared.independent ≡ true
-    → ((display_answer b s).display.lateral ≡ 4) × ((display_answer b s).display.vertical ≡ 7)
+    → ((told blank (display_answer b s)).value.lateral ≡ 4) × ((told blank (display_answer b s)).value.vertical ≡ 7)
 unfolding shown
 display_approach b h s hs on = rw (display_shown b h s hs) (approach_laws (side b s).set (side_approach b h on s hs))
 

@@ -1,11 +1,15 @@
 -- Lists of calls from a bench, by the rules, and document 01's words about them. Document 01, 'The claim over a list of calls'.
 -- The words are defined from the calls alone: no bench is asked. What is said of independent operation (document 02, 2026-03) goes by the rules' bench.
-use Rattle.std.specs.Prelude.{◌≡◌, Bool, false, ◌&&◌, cond, List, [], ◌∷◌, ℕ, eqb}
+use Rattle.std.specs.Prelude.{◌≡◌, Bool, false, ◌&&◌, cond, List, [], ◌∷◌, ℕ, eqb, Result, is_ok}
 use Rattle.std.specs.Int.Count.{count_trailing_zeros}
+use Rattle.refusals.specs.declared.Refusal.{Refusal}
+use Rattle.refusals.specs.declared.Told.{Told}
 use Rattle.bench.specs.declared.Bench.{Bench}
+use Rattle.bench.specs.declared.call.Call.{Call}
 use Rattle.bench.specs.Sides.{other_side}
-use Rattle.calls.specs.declared.call.Call.{Call}
-use Rattle.calls.specs.Calls.{own_refusal, next, Reply, reply}
+use Rattle.calls.specs.declared.reply.Reply.{Reply}
+use Rattle.calls.specs.Calls.{own_verdict, next, reply}
+use Rattle.calls.specs.Answers.{tells}
 
 -- ---- a list of calls by the rules: the bench is handed on from call to call
 
@@ -13,15 +17,21 @@ abbrev pub after : Bench → List Call → Bench
 after b [] = b
 after b (c ∷ cs) = after (next b c) cs
 
-abbrev pub replies : Bench → List Call → List Reply
+-- the answer of each call
+abbrev pub replies : Bench → List Call → List (Result Reply Refusal)
 replies b [] = []
 replies b (c ∷ cs) = reply b c ∷ replies (next b c) cs
+
+-- and what each answer tells: its refusal's number and its value
+abbrev pub all_told : Bench → List Call → List (Told Reply)
+all_told b [] = []
+all_told b (c ∷ cs) = tells b c ∷ all_told (next b c) cs
 
 -- ---- document 01's words, from the calls alone
 
 -- accepted: the call's own arguments give it no refusal. Refusal 1 goes by the bench, and from a sound start it never comes: this is a part of the claim
 abbrev pub accepted : Call → Bool
-accepted c = eqb (own_refusal c) 0
+accepted c = is_ok (own_verdict c)
 
 -- accepted, and acting on event e: a word whose lowest set bit is e
 abbrev pub acts_on : ℕ → Call → Bool

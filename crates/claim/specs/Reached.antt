@@ -2,9 +2,9 @@
 -- to which the passive side's rule applies, for either side, with a send and without one, and again after independent operation; the rule has to be silent about a
 -- refresh that ended it; and the splits of a list by which the rule is stated leave no list out. Here is the statement only; the proof is in proofs/Reached.antt.
 use Rattle.std.specs.Prelude.{◌≡◌, Bool, true, false, ◌⊎◌, List, [], ◌∷◌, ◌++◌, ℕ, ◌≤◌, ℤ, pos}
+use Rattle.bench.specs.declared.call.Call.{Call}
 use Rattle.bench.specs.Sides.{other_side}
 use Rattle.bench.specs.Holds.{power_on, started}
-use Rattle.calls.specs.declared.call.Call.{Call}
 use Rattle.claim.specs.Lists.{after, transfers, refreshes, sends, pilot_flying, None, OffThroughout}
 use Rattle.claim.specs.Claim.{display_from, display_after}
 
@@ -13,13 +13,13 @@ pub record Lateral (n : ℕ) : Type 0 where
   pub calls : List Call
   pub side : ℕ
   pub accepted : (display_after calls side).refusal ≡ 0
-  pub law : (display_after calls side).display.lateral ≡ n
+  pub law : (display_after calls side).value.lateral ≡ n
 
 pub record Vertical (n : ℕ) : Type 0 where
   pub calls : List Call
   pub side : ℕ
   pub accepted : (display_after calls side).refusal ≡ 0
-  pub law : (display_after calls side).display.vertical ≡ n
+  pub law : (display_after calls side).value.vertical ≡ n
 
 -- whether independent operation is on after a list of calls from power-on
 abbrev pub independent_after : List Call → Bool
@@ -48,9 +48,9 @@ pub record Speaks (side : ℕ) : Type 0 where
   pub last_send : None (sends (other_side side)) later
   pub last_refresh : None (refreshes side) post
   pub no_transfer : None transfers post
-  pub law : (display_after (ahead ++ (Call.Send (other_side side) ∷ later) ++ (Call.Refresh side ∷ post)) side).display.lateral ≡ 2
-  pub at_power_on : (display_after [] side).display.lateral ≡ 0
-  pub other_law : (display_after (ahead ++ (Call.Send (other_side side) ∷ later) ++ (Call.Refresh side ∷ post)) (other_side side)).display.lateral ≡ 1
+  pub law : (display_after (ahead ++ (Call.Send (other_side side) ∷ later) ++ (Call.Refresh side ∷ post)) side).value.lateral ≡ 2
+  pub at_power_on : (display_after [] side).value.lateral ≡ 0
+  pub other_law : (display_after (ahead ++ (Call.Send (other_side side) ∷ later) ++ (Call.Refresh side ∷ post)) (other_side side)).value.lateral ≡ 1
 
 -- the same with no send ahead: the side shows a law that it loses at the refresh, and then the law of power-on, which is not the other side's
 pub record SpeaksUnsent (side : ℕ) : Type 0 where
@@ -62,9 +62,9 @@ pub record SpeaksUnsent (side : ℕ) : Type 0 where
   pub unsent : None (sends (other_side side)) pre
   pub last_refresh : None (refreshes side) post
   pub no_transfer : None transfers post
-  pub law_before : (display_after pre side).display.lateral ≡ 2
-  pub law : (display_after (pre ++ (Call.Refresh side ∷ post)) side).display.lateral ≡ 0
-  pub other_law : (display_after (pre ++ (Call.Refresh side ∷ post)) (other_side side)).display.lateral ≡ 1
+  pub law_before : (display_after pre side).value.lateral ≡ 2
+  pub law : (display_after (pre ++ (Call.Refresh side ∷ post)) side).value.lateral ≡ 0
+  pub other_law : (display_after (pre ++ (Call.Refresh side ∷ post)) (other_side side)).value.lateral ≡ 1
 
 -- it applies to a list in which independent operation was on
 pub record SpeaksAgain (side : ℕ) : Type 0 where
@@ -84,12 +84,12 @@ pub record Silent (side : ℕ) : Type 0 where
   pub over : independent_after (ahead ++ (Call.Send (other_side side) ∷ later) ++ (Call.Refresh side ∷ [])) ≡ false
   pub passive : pilot_flying (ahead ++ (Call.Send (other_side side) ∷ later)) ≡ side → ⊥
   pub last_send : None (sends (other_side side)) later
-  pub sent_law : (display_after ahead (other_side side)).display.lateral ≡ 4
-  pub law : (display_after (ahead ++ (Call.Send (other_side side) ∷ later) ++ (Call.Refresh side ∷ [])) side).display.lateral ≡ 0
+  pub sent_law : (display_after ahead (other_side side)).value.lateral ≡ 4
+  pub law : (display_after (ahead ++ (Call.Send (other_side side) ∷ later) ++ (Call.Refresh side ∷ [])) side).value.lateral ≡ 0
 
 -- the IAS reference that right shows when it refreshes right after a start
 abbrev pub ias_at_start : ℤ → ℤ
-ias_at_start speed = (display_from (started speed).bench (Call.Refresh 1 ∷ []) 1).display.references.ias
+ias_at_start speed = (display_from (started speed).bench (Call.Refresh 1 ∷ []) 1).value.references.ias
 
 -- a list split at its last call of a kind: c is that call
 pub record Last (kind : Call → Bool) (c : Call) (cs : List Call) : Type 0 where

@@ -3,16 +3,17 @@
 use Rattle.std.specs.Prelude.{◌≡◌, false, List, [], ◌∷◌, ◌++◌, map, ℕ, ℤ, pos, negsuc, Float, Ok}
 use Rattle.std.specs.Float.{binary64}
 use Rattle.std.specs.Float.Ieee.{of_bits}
+use Rattle.refusals.specs.declared.Told.{Told}
 use Rattle.rounding.specs.Whole.{whole_of}
 use Rattle.rotation.specs.Rotation.{rotation_of}
 use Rattle.bench.specs.declared.References.{References}
 use Rattle.bench.specs.declared.Reading.{Reading}
+use Rattle.bench.specs.declared.call.Call.{Call}
 use Rattle.bench.specs.Holds.{power_on}
 use Rattle.bench.specs.Readings.{whole_reading}
-use Rattle.calls.specs.declared.answers.Display.{Display}
-use Rattle.calls.specs.declared.call.Call.{Call}
-use Rattle.calls.specs.Calls.{plain, told}
-use Rattle.claim.specs.Lists.{after, replies}
+use Rattle.calls.specs.declared.reply.Display.{Display}
+use Rattle.calls.specs.declared.reply.Reply.{Reply}
+use Rattle.claim.specs.Lists.{after, all_told}
 use Rattle.claim.specs.Claim.{display_after}
 
 -- ---- names
@@ -27,9 +28,17 @@ on_left = 0
 abbrev pub on_right : ℕ
 on_right = 1
 
+-- what a reading tells: its refusal
+abbrev pub done : ℕ → Told Reply
+done refusal = record { refusal = refusal; value = Reply.Done }
+
+-- and an event: its refusal, and the number acted on or 32
+abbrev pub event : ℕ → ℕ → Told Reply
+event refusal number = record { refusal = refusal; value = Reply.Event number }
+
 -- what a display of a side shows after a list of calls from power-on
 abbrev pub shown_by : List Call → ℕ → Display
-shown_by cs s = (display_after cs s).display
+shown_by cs s = (display_after cs s).value
 
 -- its lateral and vertical law
 abbrev pub laws : List Call → ℕ → ℕ × ℕ
@@ -113,11 +122,11 @@ pub record Sheet : Type 0 where
   pub case1 : (whole_of (bits 0x4029_0000_0000_0000) ≡ Ok (pos 12)) × (whole_of (bits 0x402b_0000_0000_0000) ≡ Ok (pos 14))
       × (whole_of (bits 0xbfe0_0000_0000_0000) ≡ Ok (pos 0))
   -- headings of 359.25 and 359.5 are both accepted, as 359 and, by document 02, 2026-01, as 0; the float that stays is 359.5, and beside it 0
-  pub case2 : (replies power_on two ≡ plain 0 ∷ plain 0 ∷ []) × (whole_reading (Reading.Heading (bits 0x4076_7400_0000_0000)) ≡ Ok (pos 359))
+  pub case2 : (all_told power_on two ≡ done 0 ∷ done 0 ∷ []) × (whole_reading (Reading.Heading (bits 0x4076_7400_0000_0000)) ≡ Ok (pos 359))
       × (whole_reading (Reading.Heading (bits 0x4076_7800_0000_0000)) ≡ Ok (pos 0)) × ((after power_on two).readings.heading ≡ bits 0x4076_7800_0000_0000)
       × ((after power_on two).wholes.heading ≡ pos 0)
   -- an altitude of 56,000.5 is accepted, since it rounds to 56,000, the end of the range; 56,001 is refused with 6
-  pub case3 : (replies power_on three ≡ plain 0 ∷ plain 6 ∷ []) × (whole_of (bits 0x40eb_5810_0000_0000) ≡ Ok (pos 56000))
+  pub case3 : (all_told power_on three ≡ done 0 ∷ done 6 ∷ []) × (whole_of (bits 0x40eb_5810_0000_0000) ≡ Ok (pos 56000))
   -- the rotation from 250 to 3 is 9, and -9 the other way; half a turn, between 0 and 128, is -128 either way
   pub case4 : (rotation_of 250 3 ≡ pos 9) × (rotation_of 3 250 ≡ negsuc 8) × (rotation_of 0 128 ≡ negsuc 127) × (rotation_of 128 0 ≡ negsuc 127)
       -- the same by turns of the heading knob: 354 and 9 is 3, 3 and -9 is 354; 0 and -128 is 232, 232 and -128 is 104
@@ -127,9 +136,9 @@ pub record Sheet : Type 0 where
       × (laws speed48 on_left ≡ (1, 2)) × ((references_of speed48 on_left).vertical_speed ≡ pos 48) × (rotation_of 0 9 ≡ pos 9)
       × ((references_of (speed48 ++ (Call.Turn 0 9 ∷ [])) on_left).vertical_speed ≡ pos 50)
   -- word 16,384 presses HDG, event 14: HDG and PITCH (2 and 1) with ALTSEL armed (4), and the lamps HDG and PF left (129)
-  pub case6 : (replies power_on six ≡ told 0 14 ∷ []) × (laws six on_left ≡ (2, 1)) × ((shown_by six on_left).armed ≡ 4) × ((shown_by six on_left).lamps ≡ 129)
+  pub case6 : (all_told power_on six ≡ event 0 14 ∷ []) × (laws six on_left ≡ (2, 1)) × ((shown_by six on_left).armed ≡ 4) × ((shown_by six on_left).lamps ≡ 129)
   -- word 16,400 has the bits 4 and 14, and go-around, 4, is done: LGA and VGA (5 and 8) with ALTSEL armed (4)
-  pub case7 : (replies power_on seven ≡ told 0 4 ∷ []) × (laws seven on_left ≡ (5, 8)) × ((shown_by seven on_left).armed ≡ 4)
+  pub case7 : (all_told power_on seven ≡ event 0 4 ∷ []) × (laws seven on_left ≡ (5, 8)) × ((shown_by seven on_left).armed ≡ 4)
   -- APPR (65,536) arms LAPPR and VAPPR under ROLL and PITCH: sum 14. LAPPR is captured (1,024): law 4, sum 12. VAPPR is captured (2,048): law 7, sum 0.
   -- VS (131,072) takes the place of VAPPR: law 2, sum 4
   pub case8 : (laws eight₁ on_left ≡ (1, 1)) × ((shown_by eight₁ on_left).armed ≡ 14) × (laws eight₂ on_left ≡ (4, 1)) × ((shown_by eight₂ on_left).armed ≡ 12)
@@ -137,7 +146,7 @@ pub record Sheet : Type 0 where
   -- overspeed (4) while VAPPR waits beside LAPPR engages FLC: laws 4 and 3, sum 12. VAPPR's signal (2,048) then changes neither
   pub case9 : (laws nine₁ on_left ≡ (4, 3)) × ((shown_by nine₁ on_left).armed ≡ 12) × (laws nine₂ on_left ≡ (4, 3)) × ((shown_by nine₂ on_left).armed ≡ 12)
   -- an empty word is accepted with answer 32; 2,097,152, which is bit 21 (document 02, 2026-03), is refused with 4; neither changes the bench
-  pub case10 : (replies power_on ten ≡ told 0 32 ∷ told 4 32 ∷ []) × (after power_on ten ≡ power_on)
+  pub case10 : (all_told power_on ten ≡ event 0 32 ∷ event 4 32 ∷ []) × (after power_on ten ≡ power_on)
   -- case 6 leaves right Off (0 and 0), its one lamp PF left (128); left sends, right refreshes and shows 2 and 1, with its FD still Off
   pub case11 : ((display_after six on_right).refusal ≡ 0) × (laws six on_right ≡ (0, 0)) × ((shown_by six on_right).lamps ≡ 128)
       × (laws eleven on_right ≡ (2, 1)) × ((shown_by eleven on_right).fd ≡ false)

@@ -1,10 +1,10 @@
 // The answer lines.
 use crate::messages::{HELP, reason};
-use crate::numbers::Numbers;
 use crate::output::Outlet;
-use crate::panel::Panels;
-use bench::Bench;
-use bench::answers::refusal_number;
+use drawing::answers::{CallLine, PickLine};
+use drawing::numbers::Numbers;
+use drawing::panel::Panels;
+use refusals::{Told, refusal_number};
 use scripts::Command;
 use sessions::{Session, Taken};
 use std::fmt::{self, Write};
@@ -26,16 +26,19 @@ pub(crate) fn put_answer(out: &mut Outlet, taken: &Taken, session: &Session) -> 
 // In a line of its own or more.
 fn put_reply(out: &mut Outlet, taken: &Taken, command: Command, session: &Session) -> fmt::Result {
     let bench = &session.bench;
-    let refusal = refusal_number(&taken.outcome);
+    let refusal = refusal_number(&taken.answer);
     match command {
         Command::Blank => Ok(()),
-        Command::Event(_) => writeln!(out, "event {refusal} {}", taken.outcome.unwrap_or(32)),
-        Command::Send(_) => writeln!(out, "send {refusal}"),
-        Command::Refresh(_) => writeln!(out, "refresh {refusal}"),
-        Command::Display(side) => put_display(out, bench, side),
-        Command::Pick(side) => writeln!(out, "pick{}", Numbers(&guidance::pick(*bench, side))),
-        Command::Turn(_, _) | Command::Knob(_, _) => writeln!(out, "turn {refusal}"),
-        Command::Reading(_) => writeln!(out, "reading {refusal}"),
+        Command::Call(call) => writeln!(
+            out,
+            "{}",
+            CallLine {
+                call,
+                answer: taken.answer
+            }
+        ),
+        Command::Pick(side) => writeln!(out, "{}", PickLine(guidance::pick(bench, side))),
+        Command::Knob(_, _) => writeln!(out, "turn {refusal}"),
         Command::PowerOn => writeln!(out, "power-on {refusal}"),
         Command::Start(_) => writeln!(out, "start {refusal}"),
         Command::Bench => writeln!(out, "bench{}", Numbers(bench)),
@@ -57,14 +60,10 @@ fn put_reply(out: &mut Outlet, taken: &Taken, command: Command, session: &Sessio
     }
 }
 
-// What a side shows.
-fn put_display(out: &mut Outlet, bench: &Bench, side: u32) -> fmt::Result {
-    writeln!(out, "display{}", Numbers(&calls::display(*bench, side)))
-}
-
 // What a frame in the area says.
 fn put_read(out: &mut Outlet, area: &[u8], start: u64) -> fmt::Result {
-    writeln!(out, "read{}", Numbers(&frames::read(area, start as usize)))
+    let told = Told::of(frames::no_frame(), frames::read(area, start as usize));
+    writeln!(out, "read {}{}", told.refusal, Numbers(&told.value))
 }
 
 // A byte as two hexadecimal digits. To format each as a number would take many times as long.

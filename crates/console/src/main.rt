@@ -4,9 +4,7 @@
 
 mod answers;
 mod messages;
-mod numbers;
 mod output;
-mod panel;
 
 ghost use Rattle.std.specs.Prelude.{◌≡◌, ◌≤◌, length, take};
 ghost use Rattle.sessions.specs.Sessions.{after_end, fed};
@@ -76,13 +74,12 @@ fn read_piece(script: &mut Stdin, input: &mut [u8]) -> usize
 // An empty piece is the script's end. A write that failed ends the program with its error.
 fn main(rt: HostRuntime) -> Result<(), Error> {
     let mut script = rt.stdin();
-    // Stays: a read fills a buffer that it is lent and says how much, and the console's have a fixed size.
     let mut input = io::large_buffer();
     let mut console = Console {
         session: Session::begin(),
         out: Outlet::new(rt.stdout()),
     };
-    // Stays: every loop has to end (docs/DECISIONS.md), and a script of more pieces there is not.
+    // every loop has to end, and a script of more pieces there is not
     for _ in 0..u64::MAX {
         let length = console.take_piece(&mut script, &mut input);
         console.out.outcome()?;

@@ -2,7 +2,6 @@
 use scripts::Mistake;
 
 // What is taken where a line went wrong.
-// Stays: a text for each mistake, written in one place; Display of an enum of another crate would want a wrapper.
 pub(crate) fn reason(mistake: Mistake) -> &'static str {
     match mistake {
         Mistake::TooLong => "the line has more than 255 bytes",

@@ -9,8 +9,6 @@ use modes::sets::{engages_alt, engages_flc, engages_hdg, engages_vs, selects_lap
 use modes::{Event, ModeSet};
 
 // The event of a number, and none above 20.
-// Stays: `From` would say that nothing is lost, while all numbers above 20 give one event; and this, a public function,
-// has an event for every number and cannot fail, as `TryFrom` can.
 pub fn event_at(number: u32) -> Event
     ensures { result ≡ event_at number }
 {

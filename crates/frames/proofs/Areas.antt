@@ -4,16 +4,19 @@ use mathlib.Core.Bool.{Bool, true, false, not, cond}
 use mathlib.Core.List.{List, ◌++◌, append-nil}
 use Prim.Native.Nat.{ℕ, ◌+◌, ◌-◌, ◌≤◌}
 use native.Mathlib.Omega.{arith}
-use borrow.Author.Tests.{ne_eqb, lt-ltb, le-ltb, leb-true, leb-false}
-use lib.Dec.{eqb, leb, ltb}
+use borrow.Author.Tests.{lt-ltb, le-ltb, leb-true, leb-false}
+use lib.Dec.{leb, ltb}
 use lib.ListN.{length, take, drop, length-drop}
 use lib.Seq.{take_all, drop-length, drop-drop}
 use borrow.Rule.Slice.PartMut.{put_mid, put_same, Post-is}
+use Rattle.std.specs.Prelude.{Ok, Err, is_ok}
+use Rattle.refusals.specs.declared.Refusal.{Refusal}
+use Rattle.refusals.specs.Refusals.{Verdict}
 use Rattle.bench.specs.declared.Channel.{Channel}
 use Rattle.bench.specs.declared.Bench.{Bench}
 use Rattle.bench.specs.Parts.{box}
 use Rattle.bench.specs.Sound.{sound}
-use Rattle.frames.specs.Frames.{frame_of, fits, laid, write_refusal, area_written}
+use Rattle.frames.specs.Frames.{frame_of, fits, laid, write_verdict, area_written}
 
 -- the part of an area from a start on, as a slice of it is taken
 abbrev pub from : ℕ → List ℕ → List ℕ
@@ -49,14 +52,22 @@ room start area h = go (fits start area) refl
     go false e = lt-ltb (length (from start area)) 19 (let k = leb-false (start + 19) (length area) e in let l = long in omega arith)
 
 -- a refused write leaves the area
-pub kept : (b : Bench) (side start : ℕ) (area : List ℕ) → (write_refusal b side start area ≡ 0 → ⊥) → area_written b side start area ≡ area
+pub kept : (b : Bench) (side start : ℕ) (area : List ℕ) → (write_verdict b side start area ≡ Ok tt → ⊥) → area_written b side start area ≡ area
 unfolding area_written
-kept b side start area h = ap (λ (t : Bool). cond t (laid start (frame_of side (box side b)) area) area) (ne_eqb (write_refusal b side start area) 0 h)
+kept b side start area h = go (write_verdict b side start area) h
+  where
+    go : (v : Verdict) → (v ≡ Ok tt → ⊥) → cond (is_ok v) (laid start (frame_of side (box side b)) area) area ≡ area
+    go (Ok x) h = absurd (h refl)
+    go (Err r) h = refl
+
+-- what is left to judge where it is not refused with 1 or 2
+abbrev room_verdict : Bool → Verdict
+room_verdict t = cond t (Ok tt) (Err Refusal.NoRoom)
 
 module _ (b : Bench) (side start : ℕ) (area : List ℕ) (sound-b : sound b ≡ true) (is_side : leb side 1 ≡ true) where
-  refusal_by_room : write_refusal b side start area ≡ cond (fits start area) 0 7
-  unfolding write_refusal
-  refusal_by_room = rw (sound-b, is_side)
+  by_room : write_verdict b side start area ≡ room_verdict (fits start area)
+  unfolding write_verdict
+  by_room = rw (sound-b, is_side)
 
   pub area_is : start ≤ length area → (c : Channel) → c ≡ box side b → (last : List ℕ) →
       last ≡ cond (ltb (length (from start area)) 19) (from start area) (frame_of side c ++ drop 19 (from start area)) →
@@ -65,10 +76,10 @@ module _ (b : Bench) (side start : ℕ) (area : List ℕ) (sound-b : sound b ≡
   area_is h c same last e =
       ap (λ (l : List ℕ). put_mid start (length area - start) area l) (e ∙ ap (λ (t : Bool). cond t (from start area) (frame_of side c ++ drop 19 (from start area))) (room start area h))
       ∙ go (fits start area)
-      ∙ sym (ap (λ (n : ℕ). cond (eqb n 0) (laid start (frame_of side (box side b)) area) area) refusal_by_room)
+      ∙ sym (ap (λ (v : Verdict). cond (is_ok v) (laid start (frame_of side (box side b)) area) area) by_room)
     where
       go : (t : Bool) → put_mid start (length area - start) area (cond (not t) (from start area) (frame_of side c ++ drop 19 (from start area)))
-          ≡ cond (eqb (cond t 0 7) 0) (laid start (frame_of side (box side b)) area) area
+          ≡ cond (is_ok (room_verdict t)) (laid start (frame_of side (box side b)) area) area
       go true =
           ap (λ (n : ℕ). put_mid start (length area - start) area (frame_of side c ++ drop n (from start area))) (sym (frame_length side c))
           ∙ put_frame (frame_of side c) start area h

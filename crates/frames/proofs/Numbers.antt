@@ -34,12 +34,12 @@ pub record Raised (by most : ℕ) (x : ℤ) : Type 0 where
   pub same : x +ℤ pos by ≡ pos (raised by x)
   pub below : raised by x ≤ most
 
-pub in_range : (by high : ℕ) (low x : ℤ) → T (le_z (neg_ℤ (pos by)) low) → le_z low x ≡ true → le_z x (pos high) ≡ true → Raised by (high + by) x
+pub raised_from : (by high : ℕ) (low x : ℤ) → T (le_z (neg_ℤ (pos by)) low) → le_z low x ≡ true → le_z x (pos high) ≡ true → Raised by (high + by) x
 unfolding raised
-in_range by high low (pos n) l h k = record { same = refl; below = let m = leb-true n high k in omega arith }
-in_range by high (pos m) (negsuc n) l h k = absurd (false≢true h)
-in_range zero high (negsuc m) (negsuc n) l h k = absurd l
-in_range (suc by) high (negsuc m) (negsuc n) l h k =
+raised_from by high low (pos n) l h k = record { same = refl; below = let m = leb-true n high k in omega arith }
+raised_from by high (pos m) (negsuc n) l h k = absurd (false≢true h)
+raised_from zero high (negsuc m) (negsuc n) l h k = absurd l
+raised_from (suc by) high (negsuc m) (negsuc n) l h k =
     let a = leb→le m by l in
     let b = leb-true n m h in
     let ends = sub_case (λ (z : ℤ). (z ≡ pos (natural z)) × (natural z ≤ high + suc by)) (suc by) (suc n) (λ c. absurd (omega arith)) (λ c. (refl, omega arith)) in

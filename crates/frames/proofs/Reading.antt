@@ -13,7 +13,10 @@ use lib.Seq.{take_all, drop-cons, length-take-le}
 use Rattle.modes.specs.declared.ModeSet.{ModeSet}
 use Rattle.modes.specs.Sets.{coherent_set}
 use Rattle.modes.specs.Every.{flag_number}
-use Rattle.std.specs.Prelude.{Option, Some, None}
+use Rattle.std.specs.Prelude.{Option, Some, None, Ok, Err}
+use Rattle.refusals.specs.declared.Refusal.{Refusal}
+use Rattle.refusals.specs.Refusals.{number_of_refusal}
+use Rattle.refusals.specs.Told.{told}
 use Rattle.codes.specs.Codes.{set_of}
 use Rattle.codes.proofs.Laws.{code_laws, decoded}
 use Rattle.bench.specs.declared.References.{References}
@@ -23,9 +26,10 @@ use Rattle.bench.specs.Parts.{reference}
 use Rattle.bench.specs.Ranges.{range, within, reference_range}
 use Rattle.bench.specs.Sound.{references_sound, channel_sound}
 use Rattle.bench.proofs.SoundParts.{and_left, and_right, and_both, ReferencesIn, ChannelIn, references_whole, channel_parts}
-use Rattle.frames.specs.Frames.{FrameRead, raised, high, low, frame_of, byte_at, one_byte, two_bytes, is_marked, references_in, refused, accepted_if, read_with_set, fields_read, frame_read, read_at}
+use Rattle.frames.specs.declared.Frame.{Frame}
+use Rattle.frames.specs.Frames.{raised, high, low, frame_of, byte_at, one_byte, two_bytes, is_marked, references_in, in_range, frame_in, read_with_set, fields_read, frame_read, read_at, no_frame}
 use Rattle.frames.specs.Laws.{Bytes, accepted_read, ItsFrame}
-use Rattle.frames.proofs.Numbers.{Raised, in_range, raised_back, lowered_back, joined, kept_low, high_of, low_of}
+use Rattle.frames.proofs.Numbers.{Raised, raised_from, raised_back, lowered_back, joined, kept_low, high_of, low_of}
 use Rattle.frames.proofs.Areas.{frame_length}
 
 -- ---- the first bytes of a part
@@ -44,9 +48,9 @@ first_bytes : (part : List ℕ) → 19 ≤ length part → take 19 part ≡ byte
 first_bytes part h = bytes_from_lem 19 0 part h
 
 -- a part of 19 bytes or more is judged by its mark and its fields
-judged : (part : List ℕ) → 19 ≤ length part → frame_read part ≡ cond (is_marked part) (fields_read part) (refused 8)
+judged : (part : List ℕ) → 19 ≤ length part → frame_read part ≡ cond (is_marked part) (fields_read part) (Err Refusal.NoFrame)
 unfolding frame_read
-judged part h = ap (λ (t : Bool). cond t (refused 7) (cond (is_marked part) (fields_read part) (refused 8))) (le-ltb (length part) 19 h)
+judged part h = ap (λ (t : Bool). cond t (Err Refusal.NoRoom) (cond (is_marked part) (fields_read part) (Err Refusal.NoFrame))) (le-ltb (length part) 19 h)
 
 -- and these are in the first 19
 module _ (part rest rest' : List ℕ) where
@@ -72,7 +76,7 @@ module _ (part rest rest' : List ℕ) where
   first_judged : frame_read (front rest) ≡ frame_read (front rest')
   first_judged =
       judged (front rest) (long rest)
-      ∙ (λ i. cond (same_mark i) (same_fields i) (refused 8))
+      ∙ (λ i. cond (same_mark i) (same_fields i) (Err Refusal.NoFrame))
       ∙ sym (judged (front rest') (long rest'))
 
 by_first : (part : List ℕ) → frame_read part ≡ frame_read (take 19 part)
@@ -87,7 +91,7 @@ by_first part = go (ltb (length part) 19) refl
         ∙ ap frame_read (append-nil (bytes_from 19 0 part) ∙ sym first)
 
 -- what is read of a part whose first 19 bytes are a frame
-pub read_by : (part frame : List ℕ) → 19 ≤ length part → frame ≡ take 19 part → frame_read part ≡ cond (is_marked frame) (fields_read frame) (refused 8)
+pub read_by : (part frame : List ℕ) → 19 ≤ length part → frame ≡ take 19 part → frame_read part ≡ cond (is_marked frame) (fields_read frame) (Err Refusal.NoFrame)
 read_by part frame h e =
     let long = ap (λ (bs : List ℕ). length bs) e ∙ length-take-le 19 part h in
     by_first part ∙ ap frame_read (sym e) ∙ judged frame (omega arith)
@@ -103,7 +107,7 @@ module _ (r : References) (ok : ReferencesIn r) where
   raised_in : (n by high : ℕ) (low : ℤ) → n ≤ 6 → reference_range n ≡ range low (pos high) → T (le_z (neg_ℤ (pos by)) low) → Raised by (high + by) (reference n r)
   raised_in n by high low h e l =
       let inside = subst (λ (k : Range). within k (reference n r) ≡ true) e (ok.each n h) in
-      in_range by high low (reference n r) l (and_left (le_z low (reference n r)) (le_z (reference n r) (pos high)) inside)
+      raised_from by high low (reference n r) l (and_left (le_z low (reference n r)) (le_z (reference n r) (pos high)) inside)
       (and_right (le_z low (reference n r)) (le_z (reference n r) (pos high)) inside)
 
 -- a frame's bytes of a reference give it back
@@ -162,60 +166,42 @@ unfolding fields_read frame_of
 fields_back side c rest is_side ok =
     let part = frame_of side c ++ rest in
     let references = references_back side c rest ok.references in
-    let in_ranges_lem = ap references_sound references ∙ references_whole c.references ok.references in
+    let sound = ap references_sound references ∙ references_whole c.references ok.references in
     ap (λ (k : Option ModeSet). read_with_set k part) (code_laws.set_back c.set (subst T (sym ok.set) tt))
-    ∙ (λ i. accepted_if (is_side i && flag_le c.fd i && in_ranges_lem i) side (record { fd = flag_back c.fd i; set = c.set; references = references i }))
+    ∙ (λ i. cond (is_side i && flag_le c.fd i && sound i) (Ok (record { side = side; channel = record { fd = flag_back c.fd i; set = c.set; references = references i } })) (Err Refusal.FieldOutOfRange))
 
 pub read_back : (side : ℕ) (c : Channel) (rest : List ℕ) → side ≤ 1 → T (channel_sound c) → frame_read (frame_of side c ++ rest) ≡ accepted_read side c
 read_back side c rest h t =
     let part = frame_of side c ++ rest in
     judged part (let l = length-append (frame_of side c) rest in let n = frame_length side c in omega arith)
-    ∙ (λ i. cond (marked side c rest i) (fields_back side c rest (le-leb side 1 h) (channel_parts c (is_true (channel_sound c) t)) i) (refused 8))
+    ∙ (λ i. cond (marked side c rest i) (fields_back side c rest (le-leb side 1 h) (channel_parts c (is_true (channel_sound c) t)) i) (Err Refusal.NoFrame))
 
 -- ---- an accepted read comes from one frame
 
-abbrev in_ranges : List ℕ → Bool
-in_ranges part = leb (byte_at part 5) 1 && leb (byte_at part 6) 1 && references_sound (references_in part)
-
-abbrev channel_of : List ℕ → ModeSet → Channel
-channel_of part s = record { fd = eqb (byte_at part 6) 1; set = s; references = references_in part }
-
 -- what an accepted read shows of its part
-pub record Shown (part : List ℕ) : Type 0 where
+record Shown (part : List ℕ) (f : Frame) : Type 0 where
   pub long : 19 ≤ length part
   pub mark : is_marked part ≡ true
   pub set : ModeSet
   pub code : set_of (byte_at part 7) ≡ Some set
-  pub ranges : in_ranges part ≡ true
-  pub answer : frame_read part ≡ accepted_read (byte_at part 5) (channel_of part set)
+  pub ranges : in_range part ≡ true
+  pub frame : frame_in set part ≡ f
 
-with_ranges : (part : List ℕ) (s : ModeSet) → 19 ≤ length part → is_marked part ≡ true → set_of (byte_at part 7) ≡ Some s →
-    (t : Bool) → in_ranges part ≡ t → (accepted_if t (byte_at part 5) (channel_of part s)).refusal ≡ 0 → Shown part
-unfolding fields_read
-with_ranges part s l m k false t e = absurd (omega arith)
-with_ranges part s l m k true t e = record {
-  long = l;
-  mark = m;
-  set = s;
-  code = k;
-  ranges = t;
-  answer =
-      judged part l
-      ∙ ap (λ (u : Bool). cond u (fields_read part) (refused 8)) m
-      ∙ ap (λ (k : Option ModeSet). read_with_set k part) k
-      ∙ ap (λ (t : Bool). accepted_if t (byte_at part 5) (channel_of part s)) t;
-}
-
-shown : (part : List ℕ) → (frame_read part).refusal ≡ 0 → Shown part
+shown : (part : List ℕ) (f : Frame) → frame_read part ≡ Ok f → Shown part f
 unfolding frame_read fields_read
-shown part e = go (ltb (length part) 19) (is_marked part) (set_of (byte_at part 7)) refl refl refl e
+shown part f e = go (ltb (length part) 19) (is_marked part) (set_of (byte_at part 7)) refl refl refl e
   where
+    with_set : (s : ModeSet) → 19 ≤ length part → is_marked part ≡ true → set_of (byte_at part 7) ≡ Some s →
+        (t : Bool) → in_range part ≡ t → cond t (Ok (frame_in s part)) (Err Refusal.FieldOutOfRange) ≡ Ok f → Shown part f
+    with_set s l m k false t e = absurd (cc)
+    with_set s l m k true t e = record { long = l; mark = m; set = s; code = k; ranges = t; frame = cc }
+
     go : (t u : Bool) (k : Option ModeSet) → ltb (length part) 19 ≡ t → is_marked part ≡ u → set_of (byte_at part 7) ≡ k →
-        (cond t (refused 7) (cond u (read_with_set k part) (refused 8))).refusal ≡ 0 → Shown part
-    go true u k p q r e = absurd (omega arith)
-    go false false k p q r e = absurd (omega arith)
-    go false true None p q r e = absurd (omega arith)
-    go false true (Some s) p q r e = with_ranges part s (ltb-false (length part) 19 p) q r (in_ranges part) refl e
+        cond t (Err Refusal.NoRoom) (cond u (read_with_set k part) (Err Refusal.NoFrame)) ≡ Ok f → Shown part f
+    go true u k p q r e = absurd (cc)
+    go false false k p q r e = absurd (cc)
+    go false true None p q r e = absurd (cc)
+    go false true (Some s) p q r e = with_set s (ltb-false (length part) 19 p) q r (in_range part) refl e
 
 -- the five bytes in front
 record Marked (part : List ℕ) : Type 0 where
@@ -261,7 +247,7 @@ one_of : (part : List ℕ) → Bytes part → (k by : ℕ) → low (raised by (o
 one_of part all k by = ap low (lowered_back by (byte_at part k)) ∙ kept_low (byte_at part k) (all k)
 
 -- the frame of what a part says is the part's first 19 bytes
-its_bytes : (part : List ℕ) → Bytes part → (s : Shown part) → take 19 part ≡ frame_of (byte_at part 5) (channel_of part s.set)
+its_bytes : (part : List ℕ) → Bytes part → {f : Frame} → (s : Shown part f) → take 19 part ≡ frame_of (byte_at part 5) (frame_in s.set part).channel
 unfolding frame_of references_in
 its_bytes part all s =
     let m = marks part s.mark in
@@ -280,38 +266,22 @@ its_bytes part all s =
     m.f i ∷ m.g i ∷ m.b i ∷ m.high i ∷ m.low i ∷ byte_at part 5 ∷ sym fd i ∷ sym code i ∷ sym heading.0 i ∷ sym heading.1 i ∷ sym vertical_speed i
     ∷ sym roll i ∷ sym pitch i ∷ sym ias.0 i ∷ sym ias.1 i ∷ sym preselected.0 i ∷ sym preselected.1 i ∷ sym held.0 i ∷ sym held.1 i ∷ [])
 
-pub one_frame : (part : List ℕ) → Bytes part → (frame_read part).refusal ≡ 0 → ItsFrame part (frame_read part)
+pub one_frame : (part : List ℕ) → Bytes part → (f : Frame) → frame_read part ≡ Ok f → ItsFrame part f
 unfolding channel_sound
-one_frame part all e =
-    let s = shown part e in
+one_frame part all f e =
+    let s = shown part f e in
     let two = and_left _ (references_sound (references_in part)) s.ranges in
-    let right : ItsFrame part (accepted_read (byte_at part 5) (channel_of part s.set)) = record {
+    subst (ItsFrame part) s.frame
+    (record {
       side = leb-true (byte_at part 5) 1 (and_left (leb (byte_at part 5) 1) (leb (byte_at part 6) 1) two);
       sound =
           subst T (sym (and_both (coherent_set s.set) (references_sound (references_in part)) (is_true (coherent_set s.set) (decoded (byte_at part 7) s.set s.code).0)
           (and_right (leb (byte_at part 5) 1 && leb (byte_at part 6) 1) (references_sound (references_in part)) s.ranges))) tt;
       bytes = its_bytes part all s;
-    } in
-    subst (ItsFrame part) (sym s.answer) right
+    })
 
-pub same_bytes : (p q : List ℕ) → Bytes p → Bytes q → (frame_read p).refusal ≡ 0 → frame_read p ≡ frame_read q → take 19 p ≡ take 19 q
-same_bytes p q all all' e same =
-    (one_frame p all e).bytes
-    ∙ ap (λ (a : FrameRead). frame_of a.side a.channel) same
-    ∙ sym (one_frame q all' (sym (ap (λ (a : FrameRead). a.refusal) same) ∙ e)).bytes
+pub same_bytes : (p q : List ℕ) → Bytes p → Bytes q → (f : Frame) → frame_read p ≡ Ok f → frame_read q ≡ Ok f → take 19 p ≡ take 19 q
+same_bytes p q all all' f e e' = (one_frame p all f e).bytes ∙ sym (one_frame q all' f e').bytes
 
-pub refused_read : (part : List ℕ) → ((frame_read part).refusal ≡ 0 → ⊥) → frame_read part ≡ refused (frame_read part).refusal
-unfolding frame_read fields_read
-refused_read part h = go (ltb (length part) 19) (is_marked part) (set_of (byte_at part 7)) h
-  where
-    in_ranges_lem : (s : ModeSet) (t : Bool) → ((accepted_if t (byte_at part 5) (channel_of part s)).refusal ≡ 0 → ⊥) →
-        accepted_if t (byte_at part 5) (channel_of part s) ≡ refused (accepted_if t (byte_at part 5) (channel_of part s)).refusal
-    in_ranges_lem s true h = absurd (h refl)
-    in_ranges_lem s false h = refl
-
-    go : (t u : Bool) (k : Option ModeSet) → ((cond t (refused 7) (cond u (read_with_set k part) (refused 8))).refusal ≡ 0 → ⊥) →
-        cond t (refused 7) (cond u (read_with_set k part) (refused 8)) ≡ refused (cond t (refused 7) (cond u (read_with_set k part) (refused 8))).refusal
-    go true u k h = refl
-    go false false k h = refl
-    go false true None h = refl
-    go false true (Some s) h = in_ranges_lem s (in_ranges part) h
+pub refused_read : (part : List ℕ) (r : Refusal) → frame_read part ≡ Err r → told no_frame (frame_read part) ≡ record { refusal = number_of_refusal r; value = no_frame }
+refused_read part r e = ap (told no_frame) e

@@ -1,5 +1,7 @@
 -- Frames on a bus area: what a send copies, as 19 bytes. Document 02, 2026-02. An area, and a part of it, is the list of its bytes.
-use Rattle.std.specs.Prelude.{Bool, false, ◌&&◌, cond, List, [], ◌∷◌, ◌++◌, ℕ, ◌+◌, ◌*◌, ◌/◌, ◌%◌, eqb, leb, ltb, ℤ, pos, negsuc, ◌+ℤ◌, ◌-ℤ◌, length, take, drop, get_or, Option, Some, None, Result, Ok, Err}
+use Rattle.std.specs.Prelude.{Bool, false, ◌&&◌, cond, List, [], ◌∷◌, ◌++◌, ℕ, ◌+◌, ◌*◌, ◌/◌, ◌%◌, eqb, leb, ltb, ℤ, pos, negsuc, ◌+ℤ◌, ◌-ℤ◌, length, take, drop, get_or, Option, Some, None, Result, Ok, Err, is_ok}
+use Rattle.refusals.specs.declared.Refusal.{Refusal}
+use Rattle.refusals.specs.Refusals.{Verdict}
 use Rattle.modes.specs.declared.ModeSet.{ModeSet}
 use Rattle.modes.specs.Every.{flag_number}
 use Rattle.codes.specs.Codes.{code_of, set_of}
@@ -8,8 +10,6 @@ use Rattle.bench.specs.declared.Channel.{Channel}
 use Rattle.bench.specs.declared.Bench.{Bench}
 use Rattle.bench.specs.Parts.{box, zero_references}
 use Rattle.bench.specs.Sound.{references_sound, sound}
-use Rattle.bench.specs.declared.answers.Refusal.{Refusal}
-use Rattle.bench.specs.Answers.{number_of_refusal}
 use Rattle.frames.specs.declared.Frame.{Frame}
 
 -- ---- the bytes of a frame
@@ -52,8 +52,9 @@ abbrev pub fits : ℕ → List ℕ → Bool
 fits start area = leb (start + 19) (length area)
 
 -- 1, 2 and 7, tried in this order
-unfoldable pub write_refusal : Bench → ℕ → ℕ → List ℕ → ℕ
-write_refusal b side start area = cond (sound b) (cond (leb side 1) (cond (fits start area) 0 7) 2) 1
+unfoldable pub write_verdict : Bench → ℕ → ℕ → List ℕ → Verdict
+write_verdict b side start area =
+    cond (sound b) (cond (leb side 1) (cond (fits start area) (Ok tt) (Err Refusal.NoRoom)) (Err Refusal.UnknownSide)) (Err Refusal.UnsoundBench)
 
 -- an area with other bytes from a start on, and the rest as it was
 abbrev pub laid : ℕ → List ℕ → List ℕ → List ℕ
@@ -61,7 +62,7 @@ laid start bytes area = take start area ++ (bytes ++ drop (start + length bytes)
 
 -- the area after a write: of the side that is named, what a send of it would copy; refused, the area as it was
 unfoldable pub area_written : Bench → ℕ → ℕ → List ℕ → List ℕ
-area_written b side start area = cond (eqb (write_refusal b side start area) 0) (laid start (frame_of side (box side b)) area) area
+area_written b side start area = cond (is_ok (write_verdict b side start area)) (laid start (frame_of side (box side b)) area) area
 
 -- ---- reading, from a part of the area that begins where the frame does
 
@@ -91,37 +92,28 @@ references_in part = record {
   pitch = one_byte part 12 (pos 20);
 }
 
--- what a read says, by the paper's numbers: its refusal or 0, the side, and the channel
-pub record FrameRead : Type 0 where
-  pub refusal : ℕ
-  pub side : ℕ
-  pub channel : Channel
+-- side and FD are 0 or 1, and each reference is in its range
+abbrev pub in_range : List ℕ → Bool
+in_range part = leb (byte_at part 5) 1 && leb (byte_at part 6) 1 && references_sound (references_in part)
 
--- a refused read is zeros but for its number
-abbrev pub refused : ℕ → FrameRead
-refused n = record { refusal = n; side = 0; channel = record { fd = false; set = ModeSet.Off; references = zero_references } }
+-- what the fields say, with the set of their code
+abbrev pub frame_in : ModeSet → List ℕ → Frame
+frame_in s part = record { side = byte_at part 5; channel = record { fd = eqb (byte_at part 6) 1; set = s; references = references_in part } }
 
--- the answer of the reader, as that
-abbrev pub as_read : Result Frame Refusal → FrameRead
-as_read (Ok f) = record { refusal = 0; side = f.side; channel = f.channel }
-as_read (Err e) = record { refusal = number_of_refusal e; side = 0; channel = record { fd = false; set = ModeSet.Off; references = zero_references } }
+abbrev pub read_with_set : Option ModeSet → List ℕ → Result Frame Refusal
+read_with_set (Some s) part = cond (in_range part) (Ok (frame_in s part)) (Err Refusal.FieldOutOfRange)
+read_with_set None part = Err Refusal.FieldOutOfRange
 
-abbrev pub accepted_if : Bool → ℕ → Channel → FrameRead
-accepted_if in_range side c = cond in_range (record { refusal = 0; side = side; channel = c }) (refused 9)
-
--- side and FD are 0 or 1, the code has a set, and each reference is in its range
-abbrev pub read_with_set : Option ModeSet → List ℕ → FrameRead
-read_with_set (Some s) part =
-    accepted_if (leb (byte_at part 5) 1 && leb (byte_at part 6) 1 && references_sound (references_in part)) (byte_at part 5)
-    (record { fd = eqb (byte_at part 6) 1; set = s; references = references_in part })
-read_with_set None part = refused 9
-
-unfoldable pub fields_read : List ℕ → FrameRead
+unfoldable pub fields_read : List ℕ → Result Frame Refusal
 fields_read part = read_with_set (set_of (byte_at part 7)) part
 
 -- 7, 8 and 9, tried in this order
-unfoldable pub frame_read : List ℕ → FrameRead
-frame_read part = cond (ltb (length part) 19) (refused 7) (cond (is_marked part) (fields_read part) (refused 8))
+unfoldable pub frame_read : List ℕ → Result Frame Refusal
+frame_read part = cond (ltb (length part) 19) (Err Refusal.NoRoom) (cond (is_marked part) (fields_read part) (Err Refusal.NoFrame))
 
-unfoldable pub read_at : ℕ → List ℕ → FrameRead
+unfoldable pub read_at : ℕ → List ℕ → Result Frame Refusal
 read_at start area = frame_read (drop start area)
+
+-- what stands beside a refused read, all zeros: a read tells `told no_frame (read_at start area)`
+abbrev pub no_frame : Frame
+no_frame = record { side = 0; channel = record { fd = false; set = ModeSet.Off; references = zero_references } }

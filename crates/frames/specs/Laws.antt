@@ -1,6 +1,9 @@
--- The laws of frames. Document 02, 2026-02. `frame_laws` and `frame_examples` of `proofs/Laws.antt` prove them. That a frame is no send needs no law: of a bench that it
--- is given, a write gives back its refusal and the area alone, and a read is given none.
-use Rattle.std.specs.Prelude.{◌≡◌, true, List, [], ◌∷◌, ◌++◌, ℕ, ◌+◌, ◌≤◌, ◌<◌, T, pos, negsuc, length, take, drop, get_or}
+-- The laws of frames. Document 02, 2026-02. `frame_laws` and `frame_examples` of `proofs/Laws.antt` prove them. That a frame is no send needs no law: a write
+-- only looks at its bench, and a read is given none.
+use Rattle.std.specs.Prelude.{◌≡◌, true, List, [], ◌∷◌, ◌++◌, ℕ, ◌+◌, ◌≤◌, ◌<◌, T, pos, negsuc, length, take, drop, get_or, Result, Ok, Err}
+use Rattle.refusals.specs.declared.Refusal.{Refusal}
+use Rattle.refusals.specs.Refusals.{number_of_refusal}
+use Rattle.refusals.specs.Told.{told}
 use Rattle.modes.specs.declared.Lateral.{Lateral}
 use Rattle.modes.specs.declared.ArmedLateral.{ArmedLateral}
 use Rattle.modes.specs.declared.Vertical.{Vertical}
@@ -11,42 +14,43 @@ use Rattle.bench.specs.declared.Bench.{Bench}
 use Rattle.bench.specs.Parts.{box}
 use Rattle.bench.specs.Holds.{power_on}
 use Rattle.bench.specs.Sound.{channel_sound}
-use Rattle.frames.specs.Frames.{FrameRead, frame_of, write_refusal, area_written, accepted_if, refused, frame_read, read_at}
+use Rattle.frames.specs.declared.Frame.{Frame}
+use Rattle.frames.specs.Frames.{frame_of, write_verdict, area_written, frame_read, read_at, no_frame}
 
 -- all of a list are bytes
 abbrev pub Bytes : List ℕ → Type 0
 Bytes part = (k : ℕ) → get_or part k 0 < 256
 
-abbrev pub accepted_read : ℕ → Channel → FrameRead
-accepted_read side c = accepted_if true side c
+abbrev pub accepted_read : ℕ → Channel → Result Frame Refusal
+accepted_read side c = Ok (record { side = side; channel = c })
 
--- what an answer says is what a sound bench could hold, and the part begins with the frame that writing it makes
-pub record ItsFrame (part : List ℕ) (a : FrameRead) : Type 0 where
-  pub side : a.side ≤ 1
-  pub sound : T (channel_sound a.channel)
-  pub bytes : take 19 part ≡ frame_of a.side a.channel
+-- what is read is what a sound bench could hold, and the part begins with the frame that writing it makes
+pub record ItsFrame (part : List ℕ) (f : Frame) : Type 0 where
+  pub side : f.side ≤ 1
+  pub sound : T (channel_sound f.channel)
+  pub bytes : take 19 part ≡ frame_of f.side f.channel
 
 pub record FrameLaws : Type 0 where
   pub long : (side : ℕ) (c : Channel) → length (frame_of side c) ≡ 19
   -- a frame, whatever follows it, is read as what it was made of
   pub read_back : (side : ℕ) (c : Channel) (rest : List ℕ) → side ≤ 1 → T (channel_sound c) → frame_read (frame_of side c ++ rest) ≡ accepted_read side c
   -- so what was written is read at its start: the side, and what the bench holds of it
-  pub write_read : (b : Bench) (side start : ℕ) (area : List ℕ) → write_refusal b side start area ≡ 0 → read_at start (area_written b side start area) ≡ accepted_read side (box side b)
+  pub write_read : (b : Bench) (side start : ℕ) (area : List ℕ) → write_verdict b side start area ≡ Ok tt → read_at start (area_written b side start area) ≡ accepted_read side (box side b)
   -- an accepted read comes from exactly the frame of its answer,
-  pub one_frame : (part : List ℕ) → Bytes part → (frame_read part).refusal ≡ 0 → ItsFrame part (frame_read part)
-  -- so that equal answers come from equal bytes
-  pub same_bytes : (p q : List ℕ) → Bytes p → Bytes q → (frame_read p).refusal ≡ 0 → frame_read p ≡ frame_read q → take 19 p ≡ take 19 q
+  pub one_frame : (part : List ℕ) → Bytes part → (f : Frame) → frame_read part ≡ Ok f → ItsFrame part f
+  -- so that the same comes from the same bytes only
+  pub same_bytes : (p q : List ℕ) → Bytes p → Bytes q → (f : Frame) → frame_read p ≡ Ok f → frame_read q ≡ Ok f → take 19 p ≡ take 19 q
   -- a second write of the same changes nothing
   pub twice : (b : Bench) (side start : ℕ) (area : List ℕ) → area_written b side start (area_written b side start area) ≡ area_written b side start area
   -- a write changes no byte before its start or behind the 19, and a refused one none at all
   pub same_length : (b : Bench) (side start : ℕ) (area : List ℕ) → length (area_written b side start area) ≡ length area
   pub before : (b : Bench) (side start : ℕ) (area : List ℕ) → take start (area_written b side start area) ≡ take start area
   pub behind : (b : Bench) (side start : ℕ) (area : List ℕ) → drop (start + 19) (area_written b side start area) ≡ drop (start + 19) area
-  pub refused_write : (b : Bench) (side start : ℕ) (area : List ℕ) → (write_refusal b side start area ≡ 0 → ⊥) → area_written b side start area ≡ area
+  pub refused_write : (b : Bench) (side start : ℕ) (area : List ℕ) → (write_verdict b side start area ≡ Ok tt → ⊥) → area_written b side start area ≡ area
   -- a read looks at no byte but its 19: areas that agree there, also at different starts, are read alike
   pub local : (start start' : ℕ) (area area' : List ℕ) → take 19 (drop start area) ≡ take 19 (drop start' area') → read_at start area ≡ read_at start' area'
   -- a refused read is zeros but for its number
-  pub refused_read : (part : List ℕ) → ((frame_read part).refusal ≡ 0 → ⊥) → frame_read part ≡ refused (frame_read part).refusal
+  pub refused_read : (part : List ℕ) (r : Refusal) → frame_read part ≡ Err r → told no_frame (frame_read part) ≡ record { refusal = number_of_refusal r; value = no_frame }
 
 -- ---- worked frames
 

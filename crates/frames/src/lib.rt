@@ -1,16 +1,16 @@
-// Frames: what a send copies, as 19 bytes in a bus area. A frame that is written or read is no send: neither call
-// has a bench to give back.
+// Frames: what a send copies, as 19 bytes in a bus area. A frame that is written or read is no send: a write only looks
+// at its bench, and a read is given none.
 #![tactic(auto)]
 
 ghost use Rattle.std.specs.Prelude.{◌≡◌, cond, [], ◌∷◌, ◌++◌, ◌*◌, ◌+◌, ltb, pos, ◌-ℤ◌, length, drop};
-ghost use Rattle.bench.specs.Answers.{refusal_number};
-ghost use Rattle.frames.specs.Frames.{raised, high, low, frame_of, write_refusal, area_written, is_marked, references_in, as_read, fields_read, frame_read, read_at};
+ghost use Rattle.refusals.specs.declared.Refusal.{Refusal};
+ghost use Rattle.frames.specs.Frames.{raised, high, low, frame_of, write_verdict, area_written, is_marked, references_in, fields_read, frame_read, read_at, no_frame};
 
-use bench::answers::Refusal;
 use bench::{Bench, Channel, References};
+use modes::ModeSet;
+use refusals::Refusal;
 
-// What a frame says: the side it is of, and the side's flight director, set and references.
-// Stays: a side by number, here and in `write`, which takes any and refuses those that are none.
+// What a frame says: the side that it is of, by its number, and the side's flight director, set and references.
 #[derive(Clone, Copy)]
 pub struct Frame {
     pub side: u32,
@@ -75,7 +75,7 @@ fn frame_bytes(side: u8, c: Channel) -> [u8; 19]
 
 // Puts the frame of a channel at the beginning of a part of the area, if it has room.
 fn write_frame(part: &mut [u8], side: u8, c: Channel) -> Result<(), Refusal>
-    ensures answer { refusal_number result ≡ cond (ltb (length part.old) 19) 7 0 }
+    ensures answer { result ≡ cond (ltb (length part.old) 19) (Err Refusal.NoRoom) (Ok tt) }
     ensures new_part { part.new ≡ cond (ltb (length part.old) 19) part.old (frame_of side c ++ drop 19 part.old) }
 {
     let front = part.first_chunk_mut::<19>().ok_or(Refusal::NoRoom)?;
@@ -83,11 +83,12 @@ fn write_frame(part: &mut [u8], side: u8, c: Channel) -> Result<(), Refusal>
     Ok(())
 }
 
-// Writes the frame of a side of the bench into the area, from a start on.
-#[tactic(auto, unfolding(crate::specs::Frames::write_refusal, crate::specs::Frames::area_written))]
-pub fn write(b: Bench, side: u32, area: &mut [u8], start: usize) -> Result<(), Refusal>
-    ensures answer { refusal_number result ≡ write_refusal b side start area.old }
-    ensures new_area { area.new ≡ area_written b side start area.old }
+// Writes the frame of a side of the bench into the area, from a start on. The side comes as any number, and is refused
+// where it is none.
+#[tactic(auto, unfolding(crate::specs::Frames::write_verdict, crate::specs::Frames::area_written))]
+pub fn write(b: &Bench, side: u32, area: &mut [u8], start: usize) -> Result<(), Refusal>
+    ensures answer { result ≡ write_verdict b.now side start area.old }
+    ensures new_area { area.new ≡ area_written b.now side start area.old }
 {
     if !b.is_sound() {
         return Err(Refusal::UnsoundBench);
@@ -147,7 +148,7 @@ fn is_marked(frame: &[u8; 19]) -> bool
 // The fields of a frame, if each is in its range.
 #[tactic(auto, unfolding(crate::specs::Frames::fields_read))]
 fn read_fields(frame: &[u8; 19]) -> Result<Frame, Refusal>
-    ensures { as_read result ≡ fields_read frame.now }
+    ensures { result ≡ fields_read frame.now }
 {
     let set = codes::set_of(u32::from(frame[7])).ok_or(Refusal::FieldOutOfRange)?;
     let references = references_in(frame);
@@ -167,8 +168,8 @@ fn read_fields(frame: &[u8; 19]) -> Result<Frame, Refusal>
 
 // Reads the frame at the beginning of a part of the area.
 #[tactic(auto, unfolding(crate::specs::Frames::frame_read))]
-pub fn read_frame(part: &[u8]) -> Result<Frame, Refusal>
-    ensures { as_read result ≡ frame_read part.now }
+fn read_frame(part: &[u8]) -> Result<Frame, Refusal>
+    ensures { result ≡ frame_read part.now }
 {
     let frame = part.first_chunk::<19>().ok_or(Refusal::NoRoom)?;
     if !is_marked(frame) {
@@ -180,7 +181,21 @@ pub fn read_frame(part: &[u8]) -> Result<Frame, Refusal>
 // Reads the frame that begins at a start in the area.
 #[tactic(auto, unfolding(crate::specs::Frames::read_at, crate::specs::Frames::frame_read))]
 pub fn read(area: &[u8], start: usize) -> Result<Frame, Refusal>
-    ensures { as_read result ≡ read_at start area.now }
+    ensures { result ≡ read_at start area.now }
 {
     read_frame(area.get(start..).ok_or(Refusal::NoRoom)?)
+}
+
+// What stands beside a refused read: all zeros.
+pub fn no_frame() -> Frame
+    ensures { result ≡ no_frame }
+{
+    Frame {
+        side: 0,
+        channel: Channel {
+            fd: false,
+            set: ModeSet::Off,
+            references: bench::parts::zero_references(),
+        },
+    }
 }

@@ -70,24 +70,19 @@ fn refer(b: &mut Bench, side: u32, references: References)
 {
     let c = Channel {
         references,
-        ..box_of(*b, side)
+        ..box_of(b, side)
     };
     put_box(b, side, c);
 }
 
-// Stays: a bench and a side come one by one, as in the definitions and in the crates below, which would
-// take a struct of both apart at each call.
 fn move_reference(b: &mut Bench, side: u32, place: u32, rotation: Rotation)
     ensures { b.new ≡ reference_moved place rotation.clicks side b.old }
 {
-    let c = box_of(*b, side);
+    let c = box_of(b, side);
     refer(b, side, move_at(c.references, place, rotation.clicks));
 }
 
 // PITCH in a set that is On.
-// Stays: one function for this match and that of an event's mode change, in another crate, would be public and take
-// a closure, which has to be callable, and no public function of this repository asks anything of its callers. A
-// trait in its place would want two structs for two matches.
 fn pitch_in(s: ModeSet) -> ModeSet
     ensures { result ≡ in_on (engage PITCH) s }
 {
@@ -102,7 +97,7 @@ fn pitch_in(s: ModeSet) -> ModeSet
 fn engage_pitch_on(b: &mut Bench, side: u32)
     ensures { b.new ≡ pitched side b.old }
 {
-    let c = box_of(*b, side);
+    let c = box_of(b, side);
     steps::settle(b, side, pitch_in(c.set));
 }
 
@@ -111,7 +106,7 @@ fn engage_pitch_on(b: &mut Bench, side: u32)
 fn turn_wheel(b: &mut Bench, side: u32, rotation: Rotation)
     ensures { b.new ≡ wheel_turned rotation.clicks side b.old }
 {
-    let c = box_of(*b, side);
+    let c = box_of(b, side);
     let law = modes::numbers::vertical_law(c.set);
     match law {
         0 | 7 => {}
@@ -147,7 +142,7 @@ fn in_altsel(s: ModeSet) -> bool
 fn turn_altitude(b: &mut Bench, side: u32, rotation: Rotation)
     ensures { b.new ≡ altitude_turned rotation.clicks side b.old }
 {
-    let c = box_of(*b, side);
+    let c = box_of(b, side);
     let next = move_altitude(c.references, rotation);
     let capturing = in_altsel(c.set);
     let changed = preselection_differs(c.references, next);
@@ -170,7 +165,7 @@ fn move_heading(r: References, amount: i32) -> References
 fn turn_heading(b: &mut Bench, side: u32, rotation: Rotation)
     ensures { b.new ≡ heading_turned rotation.clicks side b.old }
 {
-    let c = box_of(*b, side);
+    let c = box_of(b, side);
     refer(b, side, move_heading(c.references, rotation.clicks));
 }
 

@@ -30,7 +30,6 @@ fn main(rt: HostRuntime) -> io::Result<()> {
     for bits in PATTERNS {
         print_rounded(&rt, bits)?;
     }
-    // Stays: counts, and no index.
     for old in 0..=255u8 {
         print_rotations(&rt, old)?;
     }

@@ -28,8 +28,6 @@ pub enum Vertical {
 }
 
 // The armed lateral mode: at most one of two.
-// Stays: three states side by side, with numbers from 0 to 2. An `Option` would want a second enum of two cases, and each
-// pattern would name both.
 #[derive(Clone, Copy)]
 pub enum ArmedLateral {
     Neither,
@@ -46,8 +44,7 @@ pub struct Modes {
     pub vappr_armed: bool,
 }
 
-// Stays: Off is a state of a side, and not an absence, as document 01 has it: Off, or On with its modes. With
-// `Option<Modes>` the answer of codes::set_of would be `Some(None)` for Off and `None` for a code of no set.
+// Off is a state of a side, and not an absence.
 #[derive(Clone, Copy)]
 pub enum ModeSet {
     Off,
@@ -55,8 +52,7 @@ pub enum ModeSet {
 }
 
 // The events in the order of their numbers, 0 to 20, and none.
-// Stays: 32, no event, has a number in document 01 as the others do, and steps::act, which is public, takes it: a step
-// that does nothing has its own law (`none_idle`).
+// 32, no event, has a number as the others do, and a line in the table that changes nothing (`none_idle`).
 #[derive(Clone, Copy)]
 pub enum Event {
     ApDisconnect,

@@ -1,5 +1,4 @@
 // The numbers that a display shows of a set: laws, armed sum, mode lamps.
-// Stays: document 01 has them as numbers. The tables below are no twins, though of one shape: each has other cases or numbers.
 ghost use Rattle.std.specs.Prelude.{◌≡◌};
 ghost use Rattle.std.specs.Result.{result_ok};
 ghost use Rattle.modes.specs.Numbers.{lateral_number, vertical_number, lateral_of, armed_of, vertical_of, lateral_law, vertical_law, armed_sum, mode_lamps, worth};

@@ -89,8 +89,6 @@ pub fn selects_lappr(s: ModeSet) -> bool
     }
 }
 
-// Stays: document 01 wants laws decided by a match on a number or mode held in a local, and a pattern takes no
-// parameter, so that the next four are not one function.
 pub fn engages_hdg(s: ModeSet) -> bool
     ensures { result ≡ engaged_in HDG s }
 {

@@ -101,7 +101,7 @@ pub fn are_pairs(w: &[u8]) -> bool
 }
 
 // The byte of two digits.
-// Stays: a byte that is no digit counts 16, since `put_pairs`, a public function, promises a value for every word.
+// A byte that is no digit counts 16: `put_pairs` has a value for every word.
 #[tactic(auto, using(crate::proofs::Pairs::or_sixteen, crate::proofs::Pairs::within_sixteen))]
 fn pair(high: u8, low: u8) -> u8
     ensures { result ≡ pair_byte high low }
@@ -140,7 +140,6 @@ fn unsigned(w: &[u8]) -> &[u8]
 }
 
 // A number with its sign, at the wider type, where 2147483648 can be negated.
-// Stays: `signed` of the crate rounding says the same of 64 bits, of which it asks that they fit, as no public function may.
 fn with_sign(minus: bool, n: u32) -> i64
     ensures { result ≡ signed_of minus n }
 {

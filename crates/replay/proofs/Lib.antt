@@ -1,5 +1,2 @@
-pub mod Coding
-pub mod Outcomes
-pub mod Codes
-pub mod Told
-pub mod Delivered
+pub mod Made
+pub mod Flights

@@ -1,90 +1,67 @@
-// Lists of calls run through the calls of the bench, from any bench or from a start.
+// Lists of calls that the code makes, with the claim over them: on any bench, and from a start, with the laws that the
+// picker names for either side after them.
 #![tactic(auto)]
 
-ghost use Rattle.std.specs.Prelude.{◌≡◌, Some};
-ghost use Rattle.replay.specs.declared.Reply.{Reply};
-ghost use Rattle.replay.specs.Coded.{calls_to, as_served, served_by, RanTo, as_ran, ran_from};
+ghost use Rattle.std.specs.Prelude.{◌≡◌, true, false, ◌++◌, length, drop};
+ghost use Rattle.bench.specs.Holds.{started};
+ghost use Rattle.bench.specs.Sound.{sound};
+ghost use Rattle.claim.specs.Lists.{after, replies};
+ghost use Rattle.claim.specs.Claim.{Claim, ClaimFrom, Refused};
+ghost use Rattle.replay.specs.Made.{made};
+ghost use Rattle.replay.specs.Flights.{flight, PageTwelve};
 
 use bench::Bench;
-use bench::answers::{Answer, Refusal};
-use calls::answers::Display;
-use calls::call::Call;
+use bench::call::Call;
+use calls::reply::Reply;
+use guidance::Laws;
+use refusals::Refusal;
 
-// What a call answers besides its bench.
-#[derive(Clone, Copy)]
-pub enum Reply {
-    // Of a turn, a reading, a send or a refresh.
-    Plain(Result<(), Refusal>),
-    // Of an event: the one acted on, or 32 where no bit was set.
-    Told(Result<u32, Refusal>),
-    // What a side shows.
-    Shows(Result<Display, Refusal>),
+// Makes calls one after the other, each on the bench that the one before it left, and puts the answer of each into its
+// place. Calls that have no place are not made, and places that have no call stay.
+pub fn run(b: &mut Bench, calls: &[Call], answers: &mut [Result<Reply, Refusal>])
+    ensures bench { b.new ≡ after b.old (made calls.now answers.old) }
+    ensures answers { answers.new ≡ replies b.old (made calls.now answers.old) ++ drop (length calls.now) answers.old }
+
+    // what demand 3 claims of a list, from any sound bench, and what becomes of a list on any other
+    ensures from_sound { sound b.old ≡ true → ClaimFrom b.old (made calls.now answers.old) }
+    ensures from_unsound { sound b.old ≡ false → Refused b.old (made calls.now answers.old) }
+{
+    let count = calls.len().min(answers.len());
+    for i in 0..count {
+        answers[i] = calls::apply(b, calls[i]);
+    }
 }
 
-// The bench after the calls, and the last one's reply, if there was a call.
+// A start and the calls after it: whether the start was accepted, the bench in the end, and what the picker then answers
+// for either side.
 #[derive(Clone, Copy)]
-pub struct Served {
-    pub bench: Bench,
-    pub reply: Option<Reply>,
-}
-
-// Whether a start was accepted, and what the calls after it left.
-#[derive(Clone, Copy)]
-pub struct Ran {
+pub struct Flight {
     pub started: Result<(), Refusal>,
-    pub served: Served,
+    pub bench: Bench,
+    pub left: Result<Laws, Refusal>,
+    pub right: Result<Laws, Refusal>,
 }
 
-// The bench that a call left, and what it answered besides, as a reply of its kind.
-fn answered<T, R: FnOnce(Result<T, Refusal>) -> Reply>(answer: Answer<T>, reply: R) -> Served
-    requires { R.IsAlwaysCallable reply }
-    ensures bench { result.bench ≡ answer.bench }
-    ensures reply { (said : Reply) × R.post reply answer.outcome said × result.reply ≡ Some said }
-{
-    Served {
-        bench: answer.bench,
-        reply: Some(reply(answer.outcome)),
-    }
-}
+// Starts at a speed in knots and makes the calls, as `run` does. A refused start gives the default bench, and the calls go
+// on from there.
+#[tactic(auto, unfolding(crate::specs::Flights::flight))]
+pub fn fly(speed: i32, calls: &[Call], answers: &mut [Result<Reply, Refusal>]) -> Flight
+    // the laws that are picked are laws that the aircraft model can fly
+    ensures page_twelve { PageTwelve result }
 
-// One call of the bench.
-#[tactic(auto, unfolding(crate::specs::Coded::served_by, calls::specs::Calls::event_answer, calls::specs::Calls::answer, calls::specs::Calls::display_answer))]
-fn serve(b: Bench, call: Call) -> Served
-    ensures { as_served result ≡ served_by b call }
-{
-    match call {
-        Call::Event(word) => answered(calls::event(b, word), Reply::Told),
-        Call::Turn(knob, new) => answered(calls::turn(b, knob, new), Reply::Plain),
-        Call::Reading(r) => answered(calls::reading(b, r), Reply::Plain),
-        Call::Send(side) => answered(calls::send(b, side), Reply::Plain),
-        Call::Refresh(side) => answered(calls::refresh(b, side), Reply::Plain),
-        Call::Display(side) => answered(calls::display(b, side), Reply::Shows),
-    }
-}
+    ensures flight { result ≡ flight speed (made calls.now answers.old) }
+    ensures answers { answers.new ≡ replies (started speed).bench (made calls.now answers.old) ++ drop (length calls.now) answers.old }
 
-// The first n of the calls, one after the other from a bench; all of them, if n is larger.
-// Stays: n beside the slice, since any n is taken; a caller that hands the part `calls[..n]` would have to show
-// that it is no longer than the slice.
-pub fn run_to(start: Bench, calls: &[Call], n: usize) -> Served
-    ensures { RanTo start (calls_to n calls.now) result }
-{
-    let begun = Served {
-        bench: start,
-        reply: None,
-    };
-    calls
-        .iter()
-        .take(n)
-        .fold(begun, |so_far, call| serve(so_far.bench, *call))
-}
-
-// The same from a start at a speed. A refused start gives the default bench, and the calls go on from there.
-pub fn start_and_run(speed: i32, calls: &[Call], n: usize) -> Ran
-    ensures { as_ran result ≡ ran_from speed (calls_to n calls.now) }
+    // demand 3, which means by power-on the start that was made
+    ensures demand_3 { Claim (started speed).bench (made calls.now answers.old) }
 {
     let start = bench::start(speed);
-    Ran {
+    let mut bench = start.bench;
+    run(&mut bench, calls, answers);
+    Flight {
         started: start.outcome,
-        served: run_to(start.bench, calls, n),
+        bench,
+        left: guidance::pick(&bench, 0),
+        right: guidance::pick(&bench, 1),
     }
 }

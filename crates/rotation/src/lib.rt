@@ -19,7 +19,7 @@ fn wide_sum(x: i32, y: i32) -> i64
 }
 
 // reference + amount, brought to the nearer end of low to high where it lies outside.
-// Stays: `clamp` of std asks that low is at most high, and this takes any two ends.
+// Any two ends are taken: where low is above high, `clamp` of std has no answer.
 pub fn clamp_add(reference: i32, amount: i32, low: i32, high: i32) -> i32
     ensures { result ≡ clamp_of low high (reference +ℤ amount) }
 {

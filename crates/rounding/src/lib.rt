@@ -22,7 +22,6 @@ pub enum NoWhole {
 // At most 53 rounds: whole_of_bits answers an exponent below 1022 (a magnitude below one half) and
 // one from 1075 on (Beyond) at once, so places is at most 1075 - 1022.
 // The bound on digits, 2^53, is that of a float's digits: it keeps the sums from wrapping.
-// Stays: places are counted, and are no index. With `||` in place of `|` the goal `loop-preserved` was not closed.
 fn nearest(digits: u64, places: u64) -> u64
     requires { digits < 9007199254740992 }
     ensures { result ≡ closest digits (2 ^ places) }

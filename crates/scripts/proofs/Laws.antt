@@ -4,6 +4,7 @@ use Prim.Native.String.{String}
 use Rattle.std.specs.Prelude.{Result}
 use Rattle.std.specs.Bool.{⊤}
 use Rattle.bench.specs.declared.Reading.{Reading}
+use Rattle.bench.specs.declared.call.Call.{Call}
 use Rattle.words.specs.Words.{word_of, same_bytes}
 use Rattle.numerals.specs.Numbers.{clicks_in}
 use Rattle.numerals.specs.Integers.{signed_in}
@@ -22,14 +23,9 @@ use Rattle.scripts.specs.Laws.{LineLaws}
 -- an area of at most 2,048 bytes, and a poke with pairs in word 2
 abbrev allows : List ℕ → Command → Bool
 allows text Command.Blank = true
-allows text (Command.Event word) = true
-allows text (Command.Send side) = true
-allows text (Command.Refresh side) = true
-allows text (Command.Display side) = true
+allows text (Command.Call call) = true
 allows text (Command.Pick side) = true
-allows text (Command.Turn knob count) = true
 allows text (Command.Knob knob clicks) = true
-allows text (Command.Reading r) = true
 allows text Command.PowerOn = true
 allows text (Command.Start speed) = true
 allows text Command.Bench = true
@@ -105,7 +101,7 @@ module _ (text : List ℕ) where
 
   turn : Meets text (turn_of text)
   unfolding turn_of
-  turn = given (knob_at text 4294967295) NoKnobNumber (λ knob e. given (number_at text 2 255) NoCount (λ n f. ends 3 (Command.Turn knob n) refl))
+  turn = given (knob_at text 4294967295) NoKnobNumber (λ knob e. given (number_at text 2 255) NoCount (λ n f. ends 3 (Command.Call (Call.Turn knob n)) refl))
 
   clicks : Meets text (clicks_of text)
   unfolding clicks_of
@@ -113,7 +109,7 @@ module _ (text : List ℕ) where
 
   event_taken : (takes : ℕ → Bool) (mistake : Mistake) → Meets text (event_if takes mistake text)
   unfolding event_if
-  event_taken takes mistake = given (event_named text) mistake (λ n e. either (takes n) (λ t. ends 2 (Command.Event (2 ^ n)) refl) (wrong mistake))
+  event_taken takes mistake = given (event_named text) mistake (λ n e. either (takes n) (λ t. ends 2 (Command.Call (Call.Event (2 ^ n))) refl) (wrong mistake))
 
   watch : Meets text (watch_of text)
   unfolding watch_of
@@ -192,13 +188,13 @@ module _ (text : List ℕ) where
   unfolding command_by commands
   by_name name =
       table (λ command. command text) commands NoCommand name (
-        number (λ n. Command.Event n) 1 4294967295 NoWord (λ n e. refl),
+        number (λ word. Command.Call (Call.Event word)) 1 4294967295 NoWord (λ n e. refl),
         (
-          of_side (λ side. Command.Send side) (λ n. refl),
+          of_side (λ side. Command.Call (Call.Send side)) (λ n. refl),
           (
-            of_side (λ side. Command.Refresh side) (λ n. refl),
+            of_side (λ side. Command.Call (Call.Refresh side)) (λ n. refl),
             (
-              of_side (λ side. Command.Display side) (λ n. refl),
+              of_side (λ side. Command.Call (Call.Display side)) (λ n. refl),
               (
                 of_side (λ side. Command.Pick side) (λ n. refl),
                 (
@@ -206,7 +202,7 @@ module _ (text : List ℕ) where
                   (
                     clicks,
                     (
-                      reading (reading_at text 1) (λ r. ends 3 (Command.Reading r) refl),
+                      reading (reading_at text 1) (λ r. ends 3 (Command.Call (Call.Reading r)) refl),
                       (
                         event_taken is_switch NoSwitch,
                         (

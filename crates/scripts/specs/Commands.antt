@@ -9,6 +9,7 @@ use Rattle.modes.specs.declared.Vertical.{Vertical}
 use Rattle.modes.specs.declared.ModeSet.{ModeSet}
 use Rattle.modes.specs.Numbers.{lateral_of, armed_of, vertical_of}
 use Rattle.bench.specs.declared.Reading.{Reading}
+use Rattle.bench.specs.declared.call.Call.{Call}
 use Rattle.words.specs.Words.{up_to, word_of, same_bytes, lookup_of}
 use Rattle.numerals.specs.Numbers.{number_in, clicks_in}
 use Rattle.numerals.specs.Pairs.{are_pairs}
@@ -94,7 +95,7 @@ knob_at text most = option_or (beside knobs (word_of text 1)) (number_at text 1 
 
 -- turn KNOB COUNT
 unfoldable pub turn_of : List ℕ → Asked
-turn_of text = if_some (knob_at text 4294967295) (λ knob. if_some (number_at text 2 255) (λ n. ends_at text 3 (Command.Turn knob n)) NoCount) NoKnobNumber
+turn_of text = if_some (knob_at text 4294967295) (λ knob. if_some (number_at text 2 255) (λ n. ends_at text 3 (Command.Call (Call.Turn knob n))) NoCount) NoKnobNumber
 
 -- knob KNOB CLICKS, of one of the four knobs; the clicks are kept modulo 256
 unfoldable pub clicks_of : List ℕ → Asked
@@ -115,7 +116,7 @@ event_named text = lookup_of (word_of text 1) event_names
 
 -- an event, if it is one of those that the command takes
 unfoldable pub event_if : (ℕ → Bool) → Mistake → List ℕ → Asked
-event_if takes why text = if_some (event_named text) (λ n. cond (takes n) (ends_at text 2 (Command.Event (2 ^ n))) (Err why)) why
+event_if takes why text = if_some (event_named text) (λ n. cond (takes n) (ends_at text 2 (Command.Call (Call.Event (2 ^ n)))) (Err why)) why
 
 -- ---- watch on, watch off
 
@@ -266,14 +267,14 @@ read_of text = if_some (start_at text 1) (λ start. ends_at text 2 (Command.Read
 
 unfoldable pub commands : List (String × (List ℕ → Asked))
 commands =
-    ("event", with_number (λ n. Command.Event n) 1 4294967295 NoWord)
-    ∷ ("send", with_side (λ side. Command.Send side))
-    ∷ ("refresh", with_side (λ side. Command.Refresh side))
-    ∷ ("display", with_side (λ side. Command.Display side))
+    ("event", with_number (λ word. Command.Call (Call.Event word)) 1 4294967295 NoWord)
+    ∷ ("send", with_side (λ side. Command.Call (Call.Send side)))
+    ∷ ("refresh", with_side (λ side. Command.Call (Call.Refresh side)))
+    ∷ ("display", with_side (λ side. Command.Call (Call.Display side)))
     ∷ ("pick", with_side (λ side. Command.Pick side))
     ∷ ("turn", turn_of)
     ∷ ("knob", clicks_of)
-    ∷ ("reading", λ text. if_reading (reading_at text 1) (λ r. ends_at text 3 (Command.Reading r)))
+    ∷ ("reading", λ text. if_reading (reading_at text 1) (λ r. ends_at text 3 (Command.Call (Call.Reading r))))
     ∷ ("press", event_if is_switch NoSwitch)
     ∷ ("signal", event_if is_signal NoSignal)
     ∷ ("power-on", λ text. ends_at text 1 Command.PowerOn)

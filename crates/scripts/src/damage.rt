@@ -63,15 +63,16 @@ fn damage_reference(part: u32, place: u32, text: &[u8]) -> Result<Command, Mista
 fn damage_box(part: u32, text: &[u8]) -> Result<Command, Mistake>
     ensures { result ≡ damage_box part text.now }
 {
-    match words::word(text, 2) {
-        b"heading" => damage_reference(part, 0, text),
-        b"preselected" => damage_reference(part, 1, text),
-        b"held" => damage_reference(part, 2, text),
-        b"vertical-speed" => damage_reference(part, 3, text),
-        b"ias" => damage_reference(part, 4, text),
-        b"roll" => damage_reference(part, 5, text),
-        b"pitch" => damage_reference(part, 6, text),
-        b"set" => damage_set(text, part),
+    let w = words::word(text, 2);
+    match w {
+        _ if w == b"heading".as_slice() => damage_reference(part, 0, text),
+        _ if w == b"preselected".as_slice() => damage_reference(part, 1, text),
+        _ if w == b"held".as_slice() => damage_reference(part, 2, text),
+        _ if w == b"vertical-speed".as_slice() => damage_reference(part, 3, text),
+        _ if w == b"ias".as_slice() => damage_reference(part, 4, text),
+        _ if w == b"roll".as_slice() => damage_reference(part, 5, text),
+        _ if w == b"pitch".as_slice() => damage_reference(part, 6, text),
+        _ if w == b"set".as_slice() => damage_set(text, part),
         _ => Err(Mistake::NoReference),
     }
 }
@@ -97,15 +98,16 @@ fn damage_reading(text: &[u8]) -> Result<Command, Mistake>
 pub(crate) fn damage(text: &[u8]) -> Result<Command, Mistake>
     ensures { result ≡ damage_of text.now }
 {
-    match words::word(text, 1) {
-        b"left" => damage_box(0, text),
-        b"right" => damage_box(1, text),
-        b"left-inbox" => damage_box(2, text),
-        b"right-inbox" => damage_box(3, text),
-        b"whole" => damage_whole(text),
-        b"reading" => damage_reading(text),
-        b"pf" => with_number(text, 2, 255, Command::DamagePf, Mistake::NoPf),
-        b"independent" => with_number(
+    let w = words::word(text, 1);
+    match w {
+        _ if w == b"left".as_slice() => damage_box(0, text),
+        _ if w == b"right".as_slice() => damage_box(1, text),
+        _ if w == b"left-inbox".as_slice() => damage_box(2, text),
+        _ if w == b"right-inbox".as_slice() => damage_box(3, text),
+        _ if w == b"whole".as_slice() => damage_whole(text),
+        _ if w == b"reading".as_slice() => damage_reading(text),
+        _ if w == b"pf".as_slice() => with_number(text, 2, 255, Command::DamagePf, Mistake::NoPf),
+        _ if w == b"independent".as_slice() => with_number(
             text,
             2,
             1,

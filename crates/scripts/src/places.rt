@@ -1,7 +1,7 @@
 // The words of a line in their places: as numbers, as names, as readings; and the end of a command.
 ghost use Rattle.std.specs.Prelude.{◌≡◌, ◌<◌, ℕ, ok_or};
 ghost use Rattle.words.specs.Words.{word_of};
-ghost use Rattle.scripts.specs.Commands.{beside, sides, ends_at, number_at, with_number, Computes, side_at, kinds, kind_number, reading_of, reading_at};
+ghost use Rattle.scripts.specs.Commands.{beside, sides, ends_at, number_at, with_number, Computes, side_at, with_side, kinds, kind_number, reading_of, reading_at};
 
 use crate::{Command, Mistake};
 use bench::Reading;
@@ -46,9 +46,10 @@ pub(crate) fn with_number<F: FnOnce(u32) -> Command>(
 fn side_named(text: &[u8]) -> Option<u32>
     ensures { result ≡ beside sides (word_of text.now 1) }
 {
-    match words::word(text, 1) {
-        b"left" => Some(0),
-        b"right" => Some(1),
+    let w = words::word(text, 1);
+    match w {
+        _ if w == b"left".as_slice() => Some(0),
+        _ if w == b"right".as_slice() => Some(1),
         _ => None,
     }
 }
@@ -63,8 +64,17 @@ pub(crate) fn side_at(text: &[u8]) -> Result<u32, Mistake>
         .ok_or(Mistake::NoSide)
 }
 
-// The kinds of readings, in the order of their numbers.
-// Stays: beside bench's Reading, since a kind is read before its value is, and document 01 has each case of that carry one.
+// The command of the side that word 1 is, if that is the last one.
+#[tactic(auto, unfolding(crate::specs::Commands::with_side))]
+pub(crate) fn with_side<F: FnOnce(u32) -> Command>(text: &[u8], ask: F) -> Result<Command, Mistake>
+    requires { F.IsAlwaysCallable ask }
+    ensures { (command : ℕ → Command) → Computes (F.post ask) command → result ≡ with_side command text.now }
+{
+    let side = side_at(text)?;
+    ends_at(text, 2, ask(side))
+}
+
+// The kinds of readings, in the order of their numbers. A kind is read before its value is.
 #[derive(Clone, Copy)]
 pub(crate) enum Kind {
     Altitude,
@@ -89,13 +99,14 @@ impl From<Kind> for u32 {
 pub(crate) fn kind_at(text: &[u8], n: usize) -> Option<Kind>
     ensures { result ≡ beside kinds (word_of text.now n) }
 {
-    match words::word(text, n) {
-        b"altitude" => Some(Kind::Altitude),
-        b"airspeed" => Some(Kind::Airspeed),
-        b"vertical-speed" => Some(Kind::VerticalSpeed),
-        b"roll" => Some(Kind::Roll),
-        b"pitch" => Some(Kind::Pitch),
-        b"heading" => Some(Kind::Heading),
+    let w = words::word(text, n);
+    match w {
+        _ if w == b"altitude".as_slice() => Some(Kind::Altitude),
+        _ if w == b"airspeed".as_slice() => Some(Kind::Airspeed),
+        _ if w == b"vertical-speed".as_slice() => Some(Kind::VerticalSpeed),
+        _ if w == b"roll".as_slice() => Some(Kind::Roll),
+        _ if w == b"pitch".as_slice() => Some(Kind::Pitch),
+        _ if w == b"heading".as_slice() => Some(Kind::Heading),
         _ => None,
     }
 }

@@ -2,6 +2,7 @@
 use Rattle.std.proofs.Common.{◌≡◌, ℕ, ◌≤◌, Bool, true, false, cond, leb, List, length, refl, Ok, Err}
 use lib.ListN.{length-replicate}
 use Rattle.bench.specs.declared.Bench.{Bench}
+use Rattle.bench.specs.declared.call.Call.{Call}
 use Rattle.frames.proofs.Laws.{frame_laws}
 use Rattle.scripts.specs.declared.Command.{Command}
 use Rattle.scripts.specs.declared.Mistake.{Mistake}
@@ -14,34 +15,16 @@ use Rattle.sessions.specs.Script.{asked}
 
 module _ (line : List ℕ) (b : Bench) (area : List ℕ) (h : length area ≤ 2048) where
   by_command : (c : Asked) → ((n : ℕ) → c ≡ Ok (Command.Area n) → n ≤ 2048) → length (area_after line c b area) ≤ 2048
-  by_command (Err mistake) k = h
-  by_command (Ok Command.Blank) k = h
-  by_command (Ok (Command.Event word)) k = h
-  by_command (Ok (Command.Send side)) k = h
-  by_command (Ok (Command.Refresh side)) k = h
-  by_command (Ok (Command.Display side)) k = h
-  by_command (Ok (Command.Pick side)) k = h
-  by_command (Ok (Command.Turn knob count)) k = h
-  by_command (Ok (Command.Knob knob clicks)) k = h
-  by_command (Ok (Command.Reading r)) k = h
-  by_command (Ok Command.PowerOn) k = h
-  by_command (Ok (Command.Start speed)) k = h
-  by_command (Ok Command.Bench) k = h
-  by_command (Ok Command.Panel) k = h
-  by_command (Ok Command.Help) k = h
-  by_command (Ok (Command.Watch on)) k = h
-  by_command (Ok (Command.DamagePf n)) k = h
-  by_command (Ok (Command.DamageReading r)) k = h
-  by_command (Ok (Command.DamageWhole kind x)) k = h
-  by_command (Ok (Command.DamageSet n set)) k = h
-  by_command (Ok (Command.DamageReference n place x)) k = h
-  by_command (Ok (Command.DamageIndependent on)) k = h
+  by_command (Ok (Command.Call (Call.Event word))) k = h
+  by_command (Ok (Command.Call (Call.Turn knob count))) k = h
+  by_command (Ok (Command.Call (Call.Reading r))) k = h
+  by_command (Ok (Command.Call (Call.Send side))) k = h
+  by_command (Ok (Command.Call (Call.Refresh side))) k = h
+  by_command (Ok (Command.Call (Call.Display side))) k = h
   by_command (Ok (Command.Area n)) k = rw (length-replicate {A = ℕ} n 0) (k n refl)
   by_command (Ok (Command.Poke start)) k = rw (poked_length start (poked_bytes line) area) h
   by_command (Ok (Command.Write side start)) k = rw (frame_laws.same_length b side start area) h
-  by_command (Ok (Command.Read start)) k = h
-  by_command (Ok Command.Bytes) k = h
-  by_command (Ok Command.Codes) k = h
+  by_command c k = h
 
   pub after_fits : length (area_after line (asked line) b area) ≤ 2048
   unfolding asked

@@ -2,5 +2,4 @@ pub mod Lines
 pub mod Clicks
 pub mod Kept
 pub mod Areas
-pub mod Answers
 pub mod Laws

@@ -4,7 +4,7 @@ use Rattle.scripts.specs.Commands.{Asked}
 use Rattle.bench.specs.declared.Bench.{Bench}
 use Rattle.acts.specs.declared.Effect.{Effect}
 use Rattle.acts.specs.Acts.{effect_of}
-use Rattle.areas.specs.declared.AreaAct.{AreaAct}
+use Rattle.scripts.specs.declared.AreaAct.{AreaAct}
 use Rattle.areas.specs.Areas.{area_by}
 
 -- ---- the watch: while it is on, a drawing follows the answer of a command that can change the bench

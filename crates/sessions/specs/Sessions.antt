@@ -1,15 +1,17 @@
 -- A session byte by byte, as the contracts cite it. What a script means is in Script, and that a session comes to it in Laws.
-use Rattle.std.specs.Prelude.{ℕ, ◌+◌, ◌%◌, ◌^◌, Bool, false, cond, List, [], ◌∷◌, ◌++◌, length, take, ◌==◌, Ok}
+use Rattle.std.specs.Prelude.{ℕ, ◌+◌, ◌%◌, ◌^◌, Bool, false, cond, List, [], ◌∷◌, ◌++◌, length, take, ◌==◌, Result, Ok}
+use Rattle.std.specs.Result.{result_and}
+use Rattle.refusals.specs.declared.Refusal.{Refusal}
 use Rattle.scripts.specs.Commands.{Asked}
 use Rattle.scripts.specs.declared.Command.{Command}
-use Rattle.bench.specs.Answers.{refusal_number}
 use Rattle.bench.specs.Holds.{power_on}
-use Rattle.calls.specs.Answers.{EventAnswer, event_in}
+use Rattle.calls.specs.declared.reply.Reply.{Reply}
 use Rattle.acts.specs.declared.Effect.{Effect}
 use Rattle.acts.specs.Acts.{answer_to, bench_after, effect_of}
-use Rattle.areas.specs.Areas.{AreaAnswer, area_answer}
+use Rattle.areas.specs.declared.AreaAnswer.{AreaAnswer}
+use Rattle.areas.specs.Areas.{area_answer}
 use Rattle.sessions.specs.declared.Session.{Session}
-use Rattle.sessions.specs.declared.Taken.{Taken as CodeTaken}
+use Rattle.sessions.specs.declared.Taken.{Taken}
 use Rattle.sessions.specs.Effects.{watch_after, is_drawn, area_act, area_after}
 use Rattle.sessions.specs.Script.{asked}
 
@@ -17,30 +19,13 @@ use Rattle.sessions.specs.Script.{asked}
 abbrev pub beginning : Session
 beginning = record { bench = power_on; lines = 0; line = record { items = [] }; watch = false; area = record { items = [] } }
 
--- ---- what a byte asks for, by the papers' numbers: the command, the refusal or 0, the event acted on or 32, and whether a drawing follows
-
-pub record Taken : Type 0 where
-  pub asked : Asked
-  pub refusal : ℕ
-  pub event : ℕ
-  pub drawn : Bool
-
--- what the code answers, as this
-abbrev pub as_taken : CodeTaken → Taken
-as_taken t = record { asked = t.asked; refusal = refusal_number t.outcome; event = event_in t.outcome; drawn = t.drawn }
-
 -- ---- a line end
 
 -- with the watch as it was, the bench and the area have answered a line; where a frame is refused, that refusal is the line's
-abbrev pub answered : Bool → Effect → EventAnswer → AreaAnswer → Taken
-answered watch effect a done = record {
-  asked = done.asked;
-  refusal = cond (done.refusal == 0) a.refusal done.refusal;
-  event = cond (done.refusal == 0) a.event 32;
-  drawn = is_drawn effect watch;
-}
+abbrev pub answered : Bool → Effect → Result Reply Refusal → AreaAnswer → Taken
+answered watch effect answer done = record { asked = done.asked; answer = result_and done.written answer; drawn = is_drawn effect watch }
 
--- a line that asks for this is carried out on the session's bench and then on its area
+-- a line that asks for this is carried out on the session's bench, and on its area with the bench as it came
 unfoldable pub carried_out : Session → List ℕ → Asked → Taken
 carried_out s line c = answered s.watch (effect_of c) (answer_to c s.bench) (area_answer (area_act (effect_of c)) c line s.bench s.area.items)
 
@@ -58,7 +43,7 @@ after_line s line c = record {
 
 -- nothing is asked while a line goes on
 abbrev pub goes_on : Taken
-goes_on = record { asked = Ok Command.Blank; refusal = 0; event = 32; drawn = false }
+goes_on = record { asked = Ok Command.Blank; answer = Ok Reply.Done; drawn = false }
 
 -- 256 bytes are kept of a line, which are more than it may have
 abbrev pub with_byte : Session → ℕ → Session

@@ -3,7 +3,7 @@ ghost use Rattle.std.specs.Prelude.{◌≡◌};
 ghost use Rattle.sessions.specs.Effects.{watch_after, is_drawn, area_act};
 
 use acts::Effect;
-use areas::AreaAct;
+use scripts::AreaAct;
 
 // The watch after a command, from the one before it.
 pub(crate) fn watch_after(effect: Effect, watch: bool) -> bool

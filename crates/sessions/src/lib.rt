@@ -6,11 +6,12 @@ mod effects;
 
 ghost use Rattle.std.specs.Prelude.{◌≡◌};
 ghost use Rattle.sessions.specs.Script.{asked};
-ghost use Rattle.sessions.specs.Sessions.{beginning, as_taken, carried_out, after_line, goes_on, with_byte, byte_taken, after_byte, script_ended, after_end};
+ghost use Rattle.sessions.specs.Sessions.{beginning, carried_out, after_line, goes_on, with_byte, byte_taken, after_byte, script_ended, after_end};
 
 use arrayvec::ArrayVec;
 use bench::Bench;
-use bench::answers::Refusal;
+use calls::reply::Reply;
+use refusals::Refusal;
 use scripts::{Command, Mistake};
 
 // What is kept from one byte of a script to the next.
@@ -27,12 +28,12 @@ pub struct Session {
     area: ArrayVec<u8, 2048>,
 }
 
-// What a byte asked for: the command of a line that ended, with the event acted on or 32, or with its
-// refusal, and whether a drawing follows. Inside a line it is `Blank`.
+// What a byte asked for: the command of a line that ended, what it answers, and whether a drawing follows. Inside
+// a line it is `Blank`.
 #[derive(Clone, Copy)]
 pub struct Taken {
     pub asked: Result<Command, Mistake>,
-    pub outcome: Result<u32, Refusal>,
+    pub answer: Result<Reply, Refusal>,
     pub drawn: bool,
 }
 
@@ -49,11 +50,11 @@ fn asked_in(line: &ArrayVec<u8, 256>) -> Result<Command, Mistake>
 
 // What a byte asks for inside a line.
 fn nothing() -> Taken
-    ensures { as_taken result ≡ goes_on }
+    ensures { result ≡ goes_on }
 {
     Taken {
         asked: Ok(Command::Blank),
-        outcome: Ok(32),
+        answer: Ok(Reply::Done),
         drawn: false,
     }
 }
@@ -80,23 +81,25 @@ impl Session {
     }
 
     // Carries out the line that was read: it is counted, and the next one begins.
+    #[tactic(auto, unfolding(crate::specs::Sessions::carried_out, crate::specs::Sessions::after_line))]
     fn end_line(&mut self) -> Taken
-        ensures answer { as_taken result ≡ carried_out self.old self.old.line.items (asked self.old.line.items) }
+        ensures answer { result ≡ carried_out self.old self.old.line.items (asked self.old.line.items) }
         ensures new_session { self.new ≡ after_line self.old self.old.line.items (asked self.old.line.items) }
     {
         let asked = asked_in(&self.line);
-        let answer = acts::answer_to(self.bench, asked);
         let effect = acts::effect_of(asked);
         let act = effects::area_act(effect);
-        let done = areas::answer_in(act, asked, self.line.as_slice(), self.bench, &mut self.area);
+        let line = self.line.as_slice();
+        // the area is given the bench as it came
+        let done = areas::answer_in(act, asked, line, &self.bench, &mut self.area);
+        let answer = acts::answer_to(&mut self.bench, asked);
         let drawn = effects::is_drawn(effect, self.watch);
-        self.bench = answer.bench;
         self.lines = self.lines.wrapping_add(1);
         self.line.clear();
         self.watch = effects::watch_after(effect, self.watch);
         Taken {
             asked: done.asked,
-            outcome: done.written.and(answer.outcome),
+            answer: done.written.and(answer),
             drawn,
         }
     }
@@ -113,7 +116,7 @@ impl Session {
     // One byte more of the script.
     #[tactic(auto, unfolding(crate::specs::Sessions::byte_taken, crate::specs::Sessions::after_byte))]
     pub fn take_byte(&mut self, byte: u8) -> Taken
-        ensures answer { as_taken result ≡ byte_taken self.old byte }
+        ensures answer { result ≡ byte_taken self.old byte }
         ensures new_session { self.new ≡ after_byte self.old byte }
     {
         if byte == b'\n' {
@@ -126,7 +129,7 @@ impl Session {
     // The script's end. A last line without a line end is carried out.
     #[tactic(auto, unfolding(crate::specs::Sessions::script_ended, crate::specs::Sessions::after_end))]
     pub fn end_script(&mut self) -> Taken
-        ensures answer { as_taken result ≡ script_ended self.old }
+        ensures answer { result ≡ script_ended self.old }
         ensures new_session { self.new ≡ after_end self.old }
     {
         if self.line.is_empty() {

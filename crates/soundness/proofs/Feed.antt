@@ -1,17 +1,18 @@
 -- Readings and whole values in a call: an accepted reading stores both, and what the other calls are made of leaves both. Assumes nothing.
 use mathlib.Core.Path.{◌≡◌}
-use mathlib.Core.Bool.{false, true≢false}
+use mathlib.Core.Bool.{true, false, true≢false}
 use Prim.Native.Nat.{ℕ}
 use lib.Dec.{eqb}
-use borrow.Author.Tests.{ne_eqb}
 use lib.Count.{count_trailing_zeros}
 use lib.IntN.{ℤ}
+use Rattle.std.specs.Prelude.{is_ok}
 use Rattle.modes.specs.declared.ModeSet.{ModeSet}
 use Rattle.modes.specs.declared.Event.{Event}
 use Rattle.modes.specs.Events.{event_at}
 use Rattle.bench.specs.declared.References.{References}
 use Rattle.bench.specs.declared.Reading.{Reading}
 use Rattle.bench.specs.declared.Bench.{Bench}
+use Rattle.bench.specs.declared.call.Call.{Call}
 use Rattle.bench.specs.Parts.{with_shared, with_counts, with_readings, with_wholes, with_box, count_of}
 use Rattle.bench.specs.Readings.{stored, stored_whole}
 use Rattle.bench.specs.Independent.{with_operation, begun, ended}
@@ -20,8 +21,7 @@ use Rattle.steps.specs.Entry.{settled}
 use Rattle.steps.specs.Steps.{with_fd_after, first_step, later_steps, three_steps}
 use Rattle.steps.proofs.ByEvent.{by_event}
 use Rattle.knobs.specs.Knobs.{referred, reference_moved, pitched, wheel_turned, altitude_turned, heading_turned, knob_turned, counted, turned}
-use Rattle.calls.specs.declared.call.Call.{Call}
-use Rattle.calls.specs.Calls.{refusal, received, done, next}
+use Rattle.calls.specs.Calls.{verdict, received, done, next}
 use Rattle.calls.specs.Sends.{sent, taken, refreshed}
 use Rattle.soundness.specs.Feed.{is_reading, SameFeed, FeedLaws}
 use Rattle.soundness.proofs.Kept.{next_sound}
@@ -86,16 +86,16 @@ done_feed (Call.Display s) b e = search
 
 others : (b : Bench) (c : Call) → is_reading c ≡ false → SameFeed b (next b c)
 unfolding next
-others b c e = either (SameFeed b) (eqb (refusal b c) 0) (ended (done c b)) b (then b (done c b) _ (done_feed c b e) (ended_feed (done c b))) (search)
+others b c e = either (SameFeed b) (is_ok (verdict b c)) (ended (done c b)) b (then b (done c b) _ (done_feed c b e) (ended_feed (done c b))) (search)
 
-accepted : (b : Bench) (r : Reading) → refusal b (Call.Reading r) ≡ 0
+accepted : (b : Bench) (r : Reading) → is_ok (verdict b (Call.Reading r)) ≡ true
     → ((next b (Call.Reading r)).readings ≡ stored r b.readings) × ((next b (Call.Reading r)).wholes ≡ stored_whole r b.wholes)
 unfolding next received with_readings with_wholes
 accepted b r e = let k = ended_feed (received r b) in rw e (k.readings, k.wholes)
 
-refused : (b : Bench) (r : Reading) → (refusal b (Call.Reading r) ≡ 0 → ⊥) → SameFeed b (next b (Call.Reading r))
+refused : (b : Bench) (r : Reading) → is_ok (verdict b (Call.Reading r)) ≡ false → SameFeed b (next b (Call.Reading r))
 unfolding next
-refused b r k = rw (ne_eqb (refusal b (Call.Reading r)) 0 k) (search)
+refused b r e = rw e (search)
 
 pub feed_laws : FeedLaws
 feed_laws = record {

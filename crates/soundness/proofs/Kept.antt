@@ -4,8 +4,10 @@ use mathlib.Core.Path.{◌≡◌, refl, ap}
 use mathlib.Core.Bool.{true, ◌&&◌}
 use Prim.Native.Nat.{ℕ, ◌≤◌}
 use native.Mathlib.Omega.{arith}
-use lib.Dec.{T, eqb, leb, leb→le}
+use lib.Dec.{T, leb, leb→le}
 use lib.Count.{count_trailing_zeros}
+use Rattle.std.specs.Prelude.{Result, Ok, Err, is_ok}
+use Rattle.std.specs.Result.{result_and}
 use Rattle.modes.specs.declared.Modes.{Modes}
 use Rattle.modes.specs.declared.ModeSet.{ModeSet}
 use Rattle.modes.specs.Finite.{Finite, every, all}
@@ -14,11 +16,11 @@ use Rattle.modes.specs.Events.{event_at}
 use Rattle.modes.proofs.Finite.{at, both_left, both_right}
 use Rattle.modes.proofs.Every.{laterals, verticals}
 use Rattle.bench.specs.declared.Bench.{Bench}
+use Rattle.bench.specs.declared.call.Call.{Call}
 use Rattle.bench.specs.Independent.{ended}
 use Rattle.bench.specs.Sound.{sound}
 use Rattle.steps.proofs.ByEvent.{by_event}
-use Rattle.calls.specs.declared.call.Call.{Call}
-use Rattle.calls.specs.Calls.{own_refusal, refusal, done, next}
+use Rattle.calls.specs.Calls.{own_verdict, verdict, done, next}
 use Rattle.soundness.specs.Kept.{KeepsSound, LawsInRange}
 use Rattle.bench.proofs.SoundParts.{by_cond, PartsIn, parts, whole}
 use Rattle.bench.proofs.StartLaws.{start_sound}
@@ -27,23 +29,28 @@ pub mod Changes
 
 -- ---- the calls
 
+-- where both of two answers are accepted, the first one is
+first_accepted : {S U E : Type 0} (x : Result S E) (y : Result U E) → is_ok (result_and x y) ≡ true → is_ok x ≡ true
+first_accepted (Ok v) y e = refl
+first_accepted (Err r) y e = e
+
 -- what an accepted call does, in its parts: independent operation is looked at afterwards
-done_sound : (c : Call) (b : Bench) → eqb (own_refusal c) 0 ≡ true → PartsIn b → PartsIn (done c b)
+done_sound : (c : Call) (b : Bench) → is_ok (own_verdict c) ≡ true → PartsIn b → PartsIn (done c b)
 done_sound (Call.Event word) b e h =
     let x = event_at (count_trailing_zeros 32 word) in
     by_event PartsIn x b (λ e. h) (λ e. begun_sound b h) (three_sound x b h)
 done_sound (Call.Turn knob n) b e h = turned_sound knob n b h
-done_sound (Call.Reading r) b e h = received_sound r b e h
+done_sound (Call.Reading r) b e h = received_sound r b (first_accepted _ _ e) h
 done_sound (Call.Send s) b e h = sent_sound s b h
 done_sound (Call.Refresh s) b e h = refreshed_sound s b h
 done_sound (Call.Display s) b e h = h
 
 -- a call hands back what it makes of the bench, or the bench as it came
 pub next_sound : (b : Bench) (c : Call) → sound b ≡ true → sound (next b c) ≡ true
-unfolding next refusal
+unfolding next verdict
 next_sound b c h =
     rw h
-    (by_cond (λ (x : Bench). sound x ≡ true) (eqb (own_refusal c) 0) (ended (done c b)) b
+    (by_cond (λ (x : Bench). sound x ≡ true) (is_ok (own_verdict c)) (ended (done c b)) b
     (λ e. search (whole, ended_sound, done_sound, parts, ended_holds)) (λ e. h))
 
 pub keeps_sound : KeepsSound

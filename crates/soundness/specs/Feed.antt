@@ -1,17 +1,17 @@
 -- What becomes of readings and their whole values in a call. Document 02, 2026-05. Here is the statement; the proof is in proofs/Feed.antt.
-use Rattle.std.specs.Prelude.{◌≡◌, Bool, true, false, ℕ}
+use Rattle.std.specs.Prelude.{◌≡◌, Bool, true, false, ℕ, is_ok}
 use Rattle.modes.specs.declared.ModeSet.{ModeSet}
 use Rattle.modes.specs.declared.Event.{Event}
 use Rattle.bench.specs.declared.References.{References}
 use Rattle.bench.specs.declared.Reading.{Reading}
 use Rattle.bench.specs.declared.Bench.{Bench}
+use Rattle.bench.specs.declared.call.Call.{Call}
 use Rattle.bench.specs.Readings.{stored, stored_whole, wholes_of}
 use Rattle.bench.specs.Sound.{sound}
 use Rattle.steps.specs.Entry.{settled}
 use Rattle.steps.specs.Steps.{first_step}
 use Rattle.knobs.specs.Knobs.{referred, counted}
-use Rattle.calls.specs.declared.call.Call.{Call}
-use Rattle.calls.specs.Calls.{refusal, next}
+use Rattle.calls.specs.Calls.{verdict, next}
 
 abbrev pub is_reading : Call → Bool
 is_reading (Call.Event word) = false
@@ -28,9 +28,9 @@ pub record SameFeed (b x : Bench) : Type 0 where
 
 pub record FeedLaws : Type 0 where
   -- a reading that is accepted leaves its float and its whole value together, and one that is refused leaves neither
-  pub accepted : (b : Bench) (r : Reading) → refusal b (Call.Reading r) ≡ 0
+  pub accepted : (b : Bench) (r : Reading) → is_ok (verdict b (Call.Reading r)) ≡ true
       → ((next b (Call.Reading r)).readings ≡ stored r b.readings) × ((next b (Call.Reading r)).wholes ≡ stored_whole r b.wholes)
-  pub refused : (b : Bench) (r : Reading) → (refusal b (Call.Reading r) ≡ 0 → ⊥) → SameFeed b (next b (Call.Reading r))
+  pub refused : (b : Bench) (r : Reading) → is_ok (verdict b (Call.Reading r)) ≡ false → SameFeed b (next b (Call.Reading r))
   -- no other call changes either,
   pub others : (b : Bench) (c : Call) → is_reading c ≡ false → SameFeed b (next b c)
   -- nor does what goes ahead of entry in a call: an event's first step, entry on the other side, a turn's count, a reference that it moves

@@ -3,9 +3,9 @@ use Rattle.std.specs.Prelude.{◌≡◌, ◌↔◌, true, ◌≤◌, ℤ}
 use Rattle.modes.specs.declared.ModeSet.{ModeSet}
 use Rattle.modes.specs.Numbers.{lateral_law, vertical_law}
 use Rattle.bench.specs.declared.Bench.{Bench}
+use Rattle.bench.specs.declared.call.Call.{Call}
 use Rattle.bench.specs.Holds.{started}
 use Rattle.bench.specs.Sound.{sound}
-use Rattle.calls.specs.declared.call.Call.{Call}
 use Rattle.calls.specs.Calls.{next}
 
 -- the bench of every start is sound, also that of a refused one, and of a sound bench every call, accepted or refused, makes a sound one

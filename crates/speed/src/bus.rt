@@ -7,12 +7,11 @@ ghost use Rattle.std.specs.Prelude.{◌<◌};
 
 use crate::checksum::{Sum, pair};
 use crate::list;
-use bench::answers::refusal_number;
 use bench::parts::{HEADING, HELD, IAS, PITCH, PRESELECTED, ROLL, VERTICAL_SPEED};
 use bench::ranges::{clamped_sum, reference_range};
 use bench::{Bench, Channel, Reading, Readings, References, Shared, Wholes};
-use frames::Frame;
 use modes::ModeSet;
+use refusals::{Told, refusal_number};
 
 // ---- the benches
 
@@ -136,8 +135,6 @@ fn is_spoiled(word: u64) -> bool {
 
 // ---- the steps
 
-// Stays: the area is of a fixed size, since a bus area is lent and a program here has no heap.
-
 // A write: start, side and refusal make one word. Where LIVE is false no call is made, here and below.
 fn write_step<const LIVE: bool>(area: &mut [u8; 2048], b: Bench, word: u64, sum: Sum) -> Sum {
     let at = start(word, (word >> 24) % 2030);
@@ -146,20 +143,8 @@ fn write_step<const LIVE: bool>(area: &mut [u8; 2048], b: Bench, word: u64, sum:
     if !LIVE {
         return sum.with(place);
     }
-    let refusal = refusal_number(&frames::write(b, of, area, at as usize));
+    let refusal = refusal_number(&frames::write(&b, of, area, at as usize));
     sum.with(place ^ (u64::from(refusal) << 40))
-}
-
-// What a refused frame counts as.
-fn nothing() -> Frame {
-    Frame {
-        side: 0,
-        channel: Channel {
-            fd: false,
-            set: ModeSet::Off,
-            references: bench::parts::zero_references(),
-        },
-    }
 }
 
 // A read. Without the call a channel of the bench goes into the sum in place of the frame's, so that the checksum
@@ -169,15 +154,17 @@ fn read_at<const LIVE: bool>(area: &[u8; 2048], at: u64, instead: Channel, sum: 
         return sum.with(at).with_channel(instead);
     }
     let read = frames::read(area, at as usize);
-    let refusal = refusal_number(&read);
-    let frame = read.unwrap_or(nothing());
+    let Told {
+        refusal,
+        value: frame,
+    } = Told::of(frames::no_frame(), read);
     sum.with(at ^ pair(0, frame.side) ^ (u64::from(refusal) << 40))
         .with_channel(frame.channel)
 }
 
 // A read, rarely one with one byte of the frame changed, which is changed back.
 fn read_step<const LIVE: bool>(area: &mut [u8; 2048], b: Bench, word: u64, sum: Sum) -> Sum {
-    let c = bench::parts::box_of(b, side(word));
+    let c = bench::parts::box_of(&b, side(word));
     let begin = frame_start(word);
     if !is_spoiled(word) {
         return read_at::<LIVE>(area, start(word, begin), c, sum);
@@ -197,7 +184,7 @@ fn fill(area: &mut [u8; 2048], seed: u64) {
     let mut word = list::first(seed);
     for frame in area.chunks_exact_mut(19).take(107) {
         word = list::shuffled(word);
-        let _ = frames::write(bench_of(word), ((word >> 16) % 2) as u32, frame, 0);
+        let _ = frames::write(&bench_of(word), ((word >> 16) % 2) as u32, frame, 0);
     }
 }
 

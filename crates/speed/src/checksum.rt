@@ -1,8 +1,8 @@
 // The checksum of a list's arguments and answers.
-use bench::answers::{Refusal, refusal_number};
+use bench::call::Call;
 use bench::{Bench, Channel, Counts, Reading, Readings, References, Wholes};
-use calls::answers::Display;
-use calls::call::Call;
+use calls::reply::{Display, Reply, beside_refusal};
+use refusals::{Refusal, Told};
 
 // A sum of words, in their order.
 #[derive(Clone, Copy)]
@@ -44,6 +44,24 @@ impl Sum {
         }
     }
 
+    // What a call answers: its refusal, and the event acted on or 32, or all that is shown.
+    pub(crate) fn with_answer(self, call: Call, answer: Result<Reply, Refusal>) -> Sum {
+        let Told { refusal, value } = Told::of(beside_refusal(call), answer);
+        match value {
+            Reply::Done => self.with(u64::from(refusal)),
+            Reply::Event(event) => self.with(pair(refusal, event)),
+            Reply::Shown(d) => self.with_display(refusal, d),
+        }
+    }
+
+    // A display's refusal, and what is shown.
+    fn with_display(self, refusal: u32, d: Display) -> Sum {
+        let laws = (u64::from(d.lateral) << 8) ^ (u64::from(d.vertical) << 16);
+        let lights = (u64::from(d.armed) << 24) ^ (u64::from(d.fd) << 48);
+        self.with(pair(refusal, d.lamps) ^ laws ^ lights)
+            .with_all(reference_words(d.references))
+    }
+
     // A reading's kind and its float.
     fn with_reading(self, r: Reading) -> Sum {
         let kind = u64::from(bench::feed::kind_of(r));
@@ -77,35 +95,6 @@ impl Sum {
             .with_channel(b.right)
             .with_channel(b.left_inbox)
             .with_channel(b.right_inbox)
-    }
-}
-
-// What a call answers besides the bench, which joins a sum.
-pub(crate) trait Told {
-    fn told(sum: Sum, outcome: Result<Self, Refusal>) -> Sum;
-}
-
-impl Told for () {
-    fn told(sum: Sum, outcome: Result<(), Refusal>) -> Sum {
-        sum.with(u64::from(refusal_number(&outcome)))
-    }
-}
-
-// The event acted on, or 32.
-impl Told for u32 {
-    fn told(sum: Sum, outcome: Result<u32, Refusal>) -> Sum {
-        sum.with(pair(refusal_number(&outcome), calls::answers::event_of(outcome)))
-    }
-}
-
-// All that is shown.
-impl Told for Display {
-    fn told(sum: Sum, outcome: Result<Display, Refusal>) -> Sum {
-        let d = calls::answers::display_of(outcome);
-        let laws = (u64::from(d.lateral) << 8) ^ (u64::from(d.vertical) << 16);
-        let lights = (u64::from(d.armed) << 24) ^ (u64::from(d.fd) << 48);
-        sum.with(pair(refusal_number(&outcome), d.lamps) ^ laws ^ lights)
-            .with_all(reference_words(d.references))
     }
 }
 

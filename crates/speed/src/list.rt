@@ -2,7 +2,7 @@
 ghost use Rattle.std.specs.Prelude.{◌<◌, ◌≤◌};
 
 use bench::Reading;
-use calls::call::Call;
+use bench::call::Call;
 
 // The word after a word: Marsaglia's xorshift by 13, 7 and 17, which goes through all words but 0.
 pub(crate) fn shuffled(word: u64) -> u64 {
@@ -18,8 +18,7 @@ pub(crate) fn first(seed: u64) -> u64 {
 
 // A call's kind: the chosen one, but at each eighth call, and where 6 is chosen at every one, the
 // word's own. 0 event, 1 turn, 2 reading, 3 send, 4 refresh, 5 display.
-// Stays: an argument of the program gives it as a number, and as one it joins the checksum: an enum made of it would be
-// turned back at once.
+// It is a number since an argument of the program gives it, and since it joins the checksum as one.
 pub(crate) fn kind(word: u64, left: u64, chosen: u64) -> u64
     ensures { result < 6 }
 {

@@ -12,9 +12,8 @@ mod checksum;
 mod list;
 
 use bench::Bench;
-use calls::answers::Display;
-use calls::call::Call;
-use checksum::{Sum, Told};
+use bench::call::Call;
+use checksum::Sum;
 use std::io;
 use std::rt::Env;
 
@@ -33,15 +32,8 @@ impl Run {
             self.sum = self.sum.with_no_answer(call);
             return;
         }
-        let b = &mut self.bench;
-        self.sum = match call {
-            Call::Event(word) => u32::told(self.sum, calls::in_place::event(b, word)),
-            Call::Turn(knob, new) => <()>::told(self.sum, calls::in_place::turn(b, knob, new)),
-            Call::Reading(r) => <()>::told(self.sum, calls::in_place::reading(b, r)),
-            Call::Send(side) => <()>::told(self.sum, calls::in_place::send(b, side)),
-            Call::Refresh(side) => <()>::told(self.sum, calls::in_place::refresh(b, side)),
-            Call::Display(side) => Display::told(self.sum, calls::in_place::display(b, side)),
-        };
+        let answer = calls::apply(&mut self.bench, call);
+        self.sum = self.sum.with_answer(call, answer);
     }
 }
 
@@ -64,7 +56,7 @@ fn run_list<const LIVE: bool>(seed: u64, calls: u64, chosen: u64) -> Sum {
 
 // One more digit of a number in decimal. What is no digit is passed over, and so is what would
 // make the number larger than 64 bits hold.
-// Stays: u64's parse refuses what is passed over here.
+// u64's parse would refuse what is passed over here.
 fn with_digit(value: u64, digit: u8) -> u64 {
     if 100000000000000000 < value {
         return value;
@@ -77,7 +69,7 @@ fn with_digit(value: u64, digit: u8) -> u64 {
 
 // An argument as the number that its digits make; 0 where it is missing or has more than 20 bytes.
 fn argument(rt: &impl Env, i: usize) -> u64 {
-    // Stays: the library writes an argument into a buffer that it is lent, and says how much; a program here has no heap.
+    // the library writes an argument into a buffer that it is lent, and says how much
     let mut text = [0u8; 20];
     match rt.arg(i, &mut text) {
         Ok(n) => text[..n]

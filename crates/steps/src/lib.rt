@@ -66,7 +66,7 @@ pub fn enter_references(k: Wholes, before: ModeSet, after: ModeSet, r: Reference
 pub fn settle(b: &mut Bench, side: u32, after: ModeSet)
     ensures { b.new ≡ settled after side b.old }
 {
-    let c = box_of(*b, side);
+    let c = box_of(b, side);
     let references = enter_references(b.wholes, c.set, after, c.references);
     let next = Channel {
         set: after,
@@ -96,14 +96,12 @@ fn shared_after(e: Event, s: Shared) -> Shared
 }
 
 // Whether a side acts and an event sets its FD On.
-// Stays: event, side and bench come one by one, as in the definitions. A struct of two of them would be
-// made before each call and taken apart in each body.
 #[tactic(auto, unfolding(crate::specs::Steps::asks_for))]
 #[inline(always)]
 fn asks_for(e: Event, side: u32, b: Bench) -> bool
     ensures { result ≡ asks_for e side b }
 {
-    let c = box_of(b, side);
+    let c = box_of(&b, side);
     side_acts(b, side) & events::asks_fd(e, b.shared.ap, b.shared.overspeed, c.set)
 }
 
@@ -120,7 +118,7 @@ fn toggle(flag: bool, fd: bool) -> bool
 fn fd_after(e: Event, side: u32, b: Bench) -> bool
     ensures { result ≡ fd_after e side b }
 {
-    let c = box_of(b, side);
+    let c = box_of(&b, side);
     if events::fd_pressed(e, side) {
         return toggle(b.shared.overspeed, c.fd);
     }
@@ -153,8 +151,8 @@ fn coming_on(s: ModeSet) -> ModeSet
 fn is_on(side: u32, b: Bench) -> bool
     ensures { result ≡ is_on side b }
 {
-    let c = box_of(b, side);
-    let sent = box_of(b, bench::parts::inbox_of(side));
+    let c = box_of(&b, side);
+    let sent = box_of(&b, bench::parts::inbox_of(side));
     c.fd | sent.fd | b.shared.ap
 }
 
@@ -163,7 +161,7 @@ fn is_on(side: u32, b: Bench) -> bool
 pub fn second_step(side: u32, b: Bench) -> ModeSet
     ensures { result ≡ second_step side b }
 {
-    let c = box_of(b, side);
+    let c = box_of(&b, side);
     if is_on(side, b) {
         coming_on(c.set)
     } else {
@@ -171,7 +169,6 @@ pub fn second_step(side: u32, b: Bench) -> ModeSet
     }
 }
 
-// Stays: beside `pitch_in` of the crate knobs, which says why.
 #[tactic(auto, unfolding(crate::specs::Steps::third_step))]
 fn third_step(e: Event, flag: bool, s: ModeSet) -> ModeSet
     ensures { result ≡ third_step e flag s }
@@ -244,7 +241,7 @@ fn three_steps(e: Event, b: &mut Bench)
 fn begin_independent(b: &mut Bench)
     ensures { b.new ≡ begun b.old }
 {
-    if bench::both_approach(*b) {
+    if bench::both_approach(b) {
         b.shared.independent = true;
     }
 }

@@ -12,7 +12,6 @@ fn is_space(byte: u8) -> bool
 }
 
 // Where a byte first stands in a text, or the text's length.
-// Stays: a public function that cannot fail stays one, and `up_to` cuts the text there either way.
 pub fn place(text: &[u8], byte: u8) -> usize
     ensures { result ≡ place_of byte text.now }
 {

@@ -1,10 +1,12 @@
 //! Reads docs/CLAIMS.md below the root that it is given and lists what it cites, between backquotes,
-//! that does not exist. The exit status is 0 only where the list is empty. Forms of citations:
+//! that does not exist, and the theorems on contracts that it does not cite. The exit status is 0 only where the
+//! list is empty. Forms of citations:
 //! - `docs/..`, `tests/..`, `crates/..`, `lessons/..`, `.ci/..`, `file.txt`: a path from the root;
 //! - `crate/specs/..`, or src, proofs, must-fail: a path in crates/; `specs/..`: one in some crate;
 //! - `crate/edit`: crates/crate/must-fail/edit.edit;
 //! - `crate::function`, `crate::module::function`: a function with an `ensures`, which is public
-//!   unless the crate is a program;
+//!   unless the crate is a program; and behind it, as in "`crate::function`, clause `name`, `name`", the names
+//!   of clauses of its `ensures`;
 //! - a word of `CITE_NOTHING`;
 //! - anything else is names, each declared in the first of these that the text gives:
 //!   1. the file of "`name` in `file`" or "`name`, `name` and `name` in `file`";
@@ -15,6 +17,13 @@
 //!   3. any of those files and packages that the text since the last heading, outside of tables, has
 //!      named so far; and the crates, by name;
 //! - in "`name`, `name` of `Type`" the names are also fields or cases of that type.
+//!
+//! A theorem is an `ensures` of a public function that is no equation for its answer; tests/contracts tells which
+//! functions may have one. The page cites each, as a clause, and in some row, item or paragraph together with a
+//! definition that the clause has behind its premises: so a theorem is missed when it is gone, and when its clause
+//! says something else.
+use contracts::text::on_one_line;
+use contracts::Head;
 use std::collections::{BTreeMap, BTreeSet};
 use std::path::Path;
 use std::{env, fs, process};
@@ -27,21 +36,40 @@ const CITE_NOTHING: [(&str, &str); 8] = [
     ("List", "a type of the language's library"),
     ("cs", "the variable of the claim, any list of calls"),
     ("#", "a character of the scripts"),
-    ("name", "stands for any test where the forms are explained"),
+    (
+        "name",
+        "stands for any test or clause where the forms are explained",
+    ),
     ("part", "stands for any part where the forms are explained"),
 ];
 
 const PARTS: &str = "tests/compare/src/parts.rs";
 const CRATES: &str = "crates.txt";
 
+/// Two kinds of citations.
+const DEFINITIONS: &str = "definitions and theorems";
+const CLAUSES: &str = "clauses";
+
 /// The repository's files by their path from the root, with their text.
 type Tree = BTreeMap<String, String>;
+
+struct Repository {
+    tree: Tree,
+    functions: Vec<Head>,
+}
 
 /// A name, and the type whose field or case it is.
 type Name = (String, Option<String>);
 
 /// The text from the piece before up to a piece, and what stands between its backquotes.
 type Piece<'a> = (&'a str, &'a str);
+
+/// What is cited, of what kind it is, and in which row, item or paragraph of the page it stands.
+struct Citation {
+    place: usize,
+    kind: &'static str,
+    what: String,
+}
 
 /// Whether `rt` makes a folder: the out/ of a crate.
 fn is_made(path: &str) -> bool {
@@ -196,43 +224,59 @@ fn path_of(piece: &str) -> Option<String> {
     }
 }
 
-/// What is wrong with the citation of a contract, if anything is.
-fn contract(tree: &Tree, piece: &str) -> Option<String> {
-    let parts: Vec<&str> = piece.split("::").collect();
-    let (name, inner) = (parts[parts.len() - 1], &parts[1..parts.len() - 1]);
-    // a method stands in the braces of its type's impl, a level deeper
-    let owner = inner
-        .last()
-        .filter(|part| part.starts_with(char::is_uppercase));
-    let modules = &inner[..inner.len() - usize::from(owner.is_some())];
-    let depth = if owner.is_some() { 4 } else { 0 };
-    let folder = format!("crates/{}/src", parts[0]);
-    let program = tree.contains_key(&format!("{folder}/main.rt"));
-    let file = match modules {
-        [] => format!("{folder}/{}.rt", if program { "main" } else { "lib" }),
-        _ => format!("{folder}/{}.rt", modules.join("/")),
-    };
-    let text = tree.get(&file).map_or("", String::as_str);
-    let level = |line: &str| line.len() - line.trim_start().len();
-    let deep = |line: &&str| program || level(line) == depth;
-    let heads = |line: &&str| words(line).starts_with(&["fn"]) && ident(words(line)[1]) == name;
-    let block = owner.map(|part| format!("impl {part} "));
-    let ahead = |line: &&str| block.as_ref().is_some_and(|block| !line.starts_with(block));
-    let mut lines = text
-        .lines()
-        .skip_while(ahead)
-        .skip_while(|line| !(heads(line) && deep(line)));
-    let Some(first) = lines.next() else {
-        return Some(format!("no such function in {file}"));
-    };
-    let own = level(first);
-    let last = |line: &str| line.ends_with('{') && level(line) <= own;
-    let mut clauses = lines.take_while(|line| !last(line)).map(str::trim_start);
-    if last(first) || !clauses.any(|line| line.starts_with("ensures")) {
-        return Some(format!("the function in {file} has no ensures"));
+impl Repository {
+    /// A tree with the functions of its sources, as tests/contracts reads them.
+    fn new(tree: Tree) -> Repository {
+        let sources = tree.iter().filter(|(path, _)| path.ends_with(".rt"));
+        let inner = sources.filter_map(|(path, text)| Some((path.strip_prefix("crates/")?, text)));
+        let functions = inner.flat_map(|(path, text)| contracts::functions(path, text).0);
+        let functions = functions.collect();
+        Repository { tree, functions }
     }
-    let hidden = !program && !first.trim_start().starts_with("pub ");
-    hidden.then(|| format!("the function in {file} is not public"))
+}
+
+/// The function whose contract a piece cites, or why there is none.
+fn contract<'a>(repository: &'a Repository, piece: &str) -> Result<&'a Head, &'static str> {
+    let name = piece.split("::").next().unwrap_or("");
+    let program = (repository.tree).contains_key(&format!("crates/{name}/src/main.rt"));
+    // in a program a method is cited without its type too
+    let short = |head: &Head| format!("{}::{}", head.module, head.name);
+    let is = |head: &&Head| head.path() == piece || program && short(head) == piece;
+    let head = repository.functions.iter().find(is);
+    let head = head.ok_or("there is no such function")?;
+    if head.of_kind("ensures").next().is_none() {
+        return Err("the function has no ensures");
+    }
+    if program || head.public {
+        Ok(head)
+    } else {
+        Err("the function is not public")
+    }
+}
+
+/// What is wrong with the citation of a function's clause, if anything is.
+fn clause(repository: &Repository, function: &str, name: &str) -> Option<String> {
+    let has = |head: &Head| head.of_kind("ensures").any(|clause| clause.name == name);
+    match contract(repository, function) {
+        Ok(head) if has(head) => None,
+        Ok(_) => Some(format!("{function} has no such clause")),
+        Err(why) => Some(why.to_string()),
+    }
+}
+
+/// The function that a piece names a clause of, if it does: the contract before the word, or before that a clause and a
+/// comma.
+fn clause_of<'a>(
+    (before, text): Piece,
+    last: Option<&'a str>,
+    function: Option<&'a str>,
+) -> Option<&'a str> {
+    let is_name = path_of(text).is_none() && !text.contains("::");
+    match before.split_whitespace().collect::<Vec<_>>()[..] {
+        [",", "clause"] => last.filter(|last| last.contains("::")),
+        [","] if is_name => function,
+        _ => None,
+    }
 }
 
 /// The piece behind the row of names that the first piece begins, joined by commas and 'and', if the
@@ -259,15 +303,20 @@ fn carried(scope: Option<String>, before: &str) -> Option<String> {
     Some(announced.to_string())
 }
 
-/// The kind of a citation, one word of the piece at the start of `row`, and what is wrong with it.
+/// The kind of a citation, one word of the piece at the start of `row`, and what is wrong with it. It is a clause, if
+/// a function is given.
 fn check(
-    tree: &Tree,
+    repository: &Repository,
     word: &str,
     row: &[Piece],
     sources: &[String],
+    function: Option<&str>,
 ) -> (&'static str, Option<String>) {
+    let tree = &repository.tree;
     if CITE_NOTHING.iter().any(|(known, _)| *known == word) {
         return ("words that cite nothing", None);
+    } else if let Some(function) = function {
+        return (CLAUSES, clause(repository, function, word));
     } else if let Some(path) = path_of(word) {
         let kind = if path.ends_with(".edit") {
             "edits"
@@ -279,7 +328,8 @@ fn check(
             (!exists(tree, &path)).then(|| format!("there is no {path}")),
         );
     } else if word.contains("::") {
-        return ("contracts", contract(tree, word));
+        let fault = contract(repository, word).err();
+        return ("contracts", fault.map(str::to_string));
     }
     let owner = behind(row, "of");
     let is = |(name, of): &Name| name == word && (owner.is_none() || of.as_deref() == owner);
@@ -296,23 +346,24 @@ fn check(
         Some(PARTS) => ("parts of compare", None),
         Some(CRATES) => ("crates", None),
         Some(source) if source.starts_with("tests/") => ("tests", None),
-        Some(_) => ("definitions and theorems", None),
+        Some(source) if source.ends_with(".rt") => ("declarations", None),
+        Some(_) => (DEFINITIONS, None),
     }
 }
 
-/// The number of citations of each kind, the faults with their lines, and the paths that are cited.
-type Report = (BTreeMap<&'static str, usize>, Vec<String>, BTreeSet<String>);
-
-fn report(tree: &Tree, document: &str) -> Report {
-    let (mut counts, mut faults, mut cited) = Report::default();
+/// All that a page cites, and the faults with their lines.
+fn report(repository: &Repository, document: &str) -> (Vec<Citation>, Vec<String>) {
+    let (mut found, mut faults) = (Vec::new(), Vec::new());
     let pieces = pieces(document).unwrap_or_else(|fault| {
         faults.push(fault);
         Vec::new()
     });
-    let (mut line, mut in_table) = (1, document.starts_with('|'));
-    let (mut scope, mut section) = (None, Vec::new());
+    let (mut line, mut place, mut in_table) = (1, 0, document.starts_with('|'));
+    let (mut scope, mut section, mut function) = (None, Vec::new(), None);
     for (at, (before, text)) in pieces.iter().enumerate() {
         line += before.matches('\n').count();
+        let starts = ["\n\n", "\n|", "\n- ", "\n#"];
+        place += usize::from(starts.iter().any(|start| before.contains(start)));
         if let Some((_, start)) = before.rsplit_once('\n') {
             in_table = start.starts_with('|');
         }
@@ -326,37 +377,82 @@ fn report(tree: &Tree, document: &str) -> Report {
         let sources = own.map_or([&section[..], &[CRATES.to_string()]].concat(), |own| {
             vec![own]
         });
+        let last = at.checked_sub(1).map(|at| pieces[at].1);
+        function = clause_of((before, text), last, function);
         for word in text.split(' ') {
-            let (kind, fault) = check(tree, word, &pieces[at..], &sources);
-            *counts.entry(kind).or_default() += 1;
+            let (kind, fault) = check(repository, word, &pieces[at..], &sources, function);
             faults.extend(fault.map(|why| format!("{line}: `{text}`: {why}")));
+            let clause = function.map(|function| clause_name(function, word));
+            let what = clause.or(path_of(word)).unwrap_or(word.to_string());
+            found.push(Citation { place, kind, what });
         }
-        if let Some(path) = path_of(text) {
-            cited.insert(path.clone());
-            if is_source(tree, &path) {
-                section.extend((!in_table).then(|| path.clone()));
-                scope = Some(path);
+        if let Some(path) = path_of(text).filter(|path| is_source(&repository.tree, path)) {
+            section.extend((!in_table).then(|| path.clone()));
+            scope = Some(path);
+        }
+    }
+    (found, faults)
+}
+
+/// The theorems of public functions that are not cited, or not beside what they say.
+fn missing(functions: &[Head], citations: &[Citation]) -> Vec<String> {
+    let mut found = Vec::new();
+    for head in functions.iter().filter(|head| head.public) {
+        for theorem in head.theorems() {
+            let what = clause_name(&head.path(), &theorem.name);
+            let cited = citations
+                .iter()
+                .filter(|cited| cited.kind == CLAUSES && cited.what == what);
+            let places: Vec<usize> = cited.map(|cited| cited.place).collect();
+            let concluded = theorem.concluded();
+            let beside = |cited: &Citation| {
+                let definition = cited.kind == DEFINITIONS && places.contains(&cited.place);
+                definition && concluded.contains(&cited.what.as_str())
+            };
+            if places.is_empty() {
+                found.push(format!(" {what}: it is not cited"));
+            } else if !citations.iter().any(beside) {
+                let text = on_one_line(&theorem.text);
+                found.push(format!(
+                    " {what}: no definition of what it says is cited beside it: {text}"
+                ));
             }
         }
     }
-    (counts, faults, cited)
+    found
+}
+
+/// How a clause is told from all others.
+fn clause_name(function: &str, clause: &str) -> String {
+    format!("{function}, clause {clause}")
 }
 
 fn main() {
     let root = env::args().nth(1).unwrap_or_else(|| String::from("."));
     let mut tree = Tree::new();
     load(Path::new(&root), "", &mut tree);
-    let document = tree.get("docs/CLAIMS.md").map_or("", String::as_str);
-    let (counts, mut faults, cited) = report(&tree, document);
+    let repository = Repository::new(tree);
+    let document = repository.tree.get("docs/CLAIMS.md");
+    let document = document.map_or("", String::as_str);
+    let (citations, mut faults) = report(&repository, document);
+    faults.extend(missing(&repository.functions, &citations));
     if !document.contains('`') {
         faults.push(String::from(" it is not there, or cites nothing"));
     }
     for fault in &faults {
         println!("docs/CLAIMS.md:{fault}");
     }
-    let edits = tree.keys().filter(|path| path.ends_with(".edit"));
+    let (mut counts, mut cited) = (BTreeMap::<_, usize>::new(), BTreeSet::new());
+    for citation in &citations {
+        *counts.entry(citation.kind).or_default() += 1;
+        cited.insert(&citation.what);
+    }
+    let edits = repository
+        .tree
+        .keys()
+        .filter(|path| path.ends_with(".edit"));
     let uncited: Vec<_> = edits
-        .filter(|path| !cited.contains(*path))
+        .filter(|path| !cited.contains(path))
         .cloned()
         .collect();
     println!("edits not cited: {} {}", uncited.len(), uncited.join(" "));
@@ -441,10 +537,14 @@ mod words;
 run: random::run,
 ";
 
-    fn faults(document: &str) -> Vec<String> {
-        let files = FILES.split('@').filter_map(|file| file.split_once('\n'));
+    fn repository(files: &str) -> Repository {
+        let files = files.split('@').filter_map(|file| file.split_once('\n'));
         let tree = files.map(|(path, text)| (path.to_string(), text.to_string()));
-        report(&tree.collect(), document).1
+        Repository::new(tree.collect())
+    }
+
+    fn faults(document: &str) -> Vec<String> {
+        report(&repository(FILES), document).1
     }
 
     /// The pieces of a document that are faults.
@@ -473,6 +573,154 @@ run: random::run,
         assert_eq!(faulty("contracts of `low::Held::shown`"), "");
         let text = "`low::Other::shown`, `low::Held::kept`, `low::Held::said`, `low::shown`, `low::Gone::shown`";
         assert_eq!(faulty(text).split(' ').count(), 5);
+    }
+
+    /// A crate of theorems: the page has to cite each clause of `hold`, and one of `run`.
+    const THEOREMS: &str = "@crates/top/specs/Laws.antt
+pub record Laws : Type 0 where
+  pub first : N
+pub Guides : N → Type 0
+@crates/top/proofs/Laws.antt
+pub laws : Laws
+@crates/top/src/lib.rt
+pub fn hold()
+    ensures laws { Laws }
+    ensures guides { (n : N) → n ≤ 1 → Guides n }
+{
+}
+pub fn run(x: u8) -> u8
+    ensures answer { result ≡ x }
+    ensures claim { Laws × Guides result }
+{
+    x
+}
+fn lemma()
+    ensures own { Laws }
+{
+}
+";
+
+    /// A page that cites all of it.
+    const CITED: &str = "# Laws
+
+| `top/specs/Laws.antt`: `Laws`, `Guides` | contract of `top::hold`, clause `laws`, `guides` | `top/proofs/Laws.antt` |
+
+Of a run: `Guides` in `top/specs/Laws.antt`, by the contract of `top::run`,
+clause `claim`.
+";
+
+    /// The faults of a page and such a crate, of which a text is another each.
+    fn changed(page: (&str, &str), files: (&str, &str)) -> Vec<String> {
+        let (document, tree) = (
+            CITED.replace(page.0, page.1),
+            THEOREMS.replace(files.0, files.1),
+        );
+        assert!(page.0.is_empty() || document != CITED, "{}", page.0);
+        assert!(files.0.is_empty() || tree != THEOREMS, "{}", files.0);
+        let repository = repository(&tree);
+        let (citations, mut faults) = report(&repository, &document);
+        faults.extend(missing(&repository.functions, &citations));
+        faults
+    }
+
+    const AS_IT_IS: (&str, &str) = ("", "");
+
+    #[test]
+    fn each_clause_that_is_cited_is_there() {
+        assert_eq!(changed(AS_IT_IS, AS_IT_IS), Vec::<String>::new());
+        let gone = "    ensures guides { (n : N) → n ≤ 1 → Guides n }\n";
+        for (old, new) in [
+            (gone, ""),
+            ("ensures guides", "ensures guided"),
+            ("ensures guides", "ensures"),
+            ("ensures guides {", "ensures laws {"),
+            ("pub fn hold", "fn hold"),
+            ("fn hold", "fn held"),
+        ] {
+            let faults = changed(AS_IT_IS, (old, new));
+            assert!(
+                faults
+                    .iter()
+                    .any(|fault| fault.starts_with("3: `guides`: ")),
+                "{old}"
+            );
+        }
+        // the function's equations have names too, a lemma has none for others, and a name behind the row is no clause
+        for (old, new, count) in [
+            ("clause `claim`", "clause `answer`, `claim`", 0),
+            ("clause `claim`", "clause `claim`, `laws`", 1),
+            ("clause `claim`", "clause `name`, `claim`", 0),
+            (
+                "`guides` |",
+                "`guides`, contract of `top::lemma`, clause `own` |",
+                2,
+            ),
+            (
+                "`guides` |",
+                "`guides`, `top/specs/Laws.antt`: `first` |",
+                0,
+            ),
+            ("`guides` |", "`guides`, `top::run` |", 0),
+            ("`guides` |", "`guides`; `laws` |", 1),
+        ] {
+            assert_eq!(changed((old, new), AS_IT_IS).len(), count, "{new}");
+        }
+    }
+
+    #[test]
+    fn each_theorem_of_a_contract_is_cited() {
+        for (old, new) in [
+            (", `guides` |", " |"),
+            ("clause `laws`, ", "clause "),
+            (", clause `laws`, `guides`", ""),
+            (",\nclause `claim`", ""),
+            ("contract of `top::run`,\nclause `claim`", "clause `claim`"),
+            ("`top::hold`, clause", "`top::hold` and its clause"),
+        ] {
+            assert!(!changed((old, new), AS_IT_IS).is_empty(), "{new}");
+        }
+        let added = |old: &str, more: &str| {
+            let new = format!("    ensures more {{ {more} }}\n{old}");
+            changed(AS_IT_IS, (old, &new)).len()
+        };
+        assert_eq!(added("    ensures laws", "Laws"), 1);
+        assert_eq!(added("    ensures claim", "Laws"), 1);
+        assert_eq!(changed(AS_IT_IS, ("ensures laws", "ensures")).len(), 2);
+        // no equation is a theorem, and no fact of a private function
+        assert_eq!(added("    ensures answer", "result ≡ x"), 0);
+        assert_eq!(added("    ensures own", "Laws"), 0);
+    }
+
+    #[test]
+    fn a_theorem_is_cited_beside_what_it_says() {
+        for (old, new) in [
+            ("laws { Laws }", "laws { N }"),
+            ("laws { Laws }", "laws { Laws → ⊤ }"),
+            ("n ≤ 1 → Guides n", "Guides n → n ≤ 1"),
+            ("n ≤ 1 → Guides n", "n ≤ 1"),
+            ("Laws × Guides result", "Laws"),
+        ] {
+            assert_eq!(changed(AS_IT_IS, (old, new)).len(), 1, "{new}");
+        }
+        for (old, new) in [
+            ("`Laws`, `Guides` |", "`Laws` |"),
+            ("`Guides` in `top/specs/Laws.antt`, by", "by"),
+            ("Of a run: `Guides` in", "`first` in"),
+            (
+                "`Laws`, `Guides` |",
+                "`Guides` |\n| `top/specs/Laws.antt`: `Laws` |",
+            ),
+        ] {
+            assert_eq!(changed((old, new), AS_IT_IS).len(), 1, "{new}");
+        }
+        // one place is enough
+        let twice = "- contract of `top::hold`, clause `laws`\n\n# Laws";
+        assert_eq!(changed(("# Laws", twice), AS_IT_IS).len(), 0);
+        // a name that a source declares says nothing
+        let cited = ("`Laws`, `Guides` |", "`Guides`; `N` in `top/src/lib.rt` |");
+        let old = "pub fn hold()\n    ensures laws { Laws }";
+        let new = "struct N {\n}\npub fn hold()\n    ensures laws { N }";
+        assert_eq!(changed(cited, (old, new)).len(), 1);
     }
 
     #[test]

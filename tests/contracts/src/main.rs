@@ -4,11 +4,12 @@
 //!   own modules see, `pub(crate)`, is not public, and a method that a trait asks for, with no body, is;
 //! - the `ensures` of a public function are equations that settle all that it answers: one on its
 //!   result, `result ≡ ..` or, of a reference, `result.now ≡ ..`, and one on what each `&mut` parameter
-//!   and `&mut self` holds at the end, `x.new ≡ ..`. The result may stand under one of `FAITHFUL`, the definitions
-//!   that take an answer to the paper's numbers and never two answers to the same. One of them may also take the record
-//!   that a result and what a place holds at the end make, and then the equation settles both. No right side mentions
-//!   `result`, a `.new` or an `.exit`, since such an equation may hold of every answer. `EXCEPTIONS` lists the
-//!   functions that settle it otherwise;
+//!   and `&mut self` holds at the end, `x.new ≡ ..`. Nothing stands around the result or the place, and no right side
+//!   mentions `result`, a `.new` or an `.exit`, since such an equation may hold of every answer;
+//! - any other `ensures` of a public function is a theorem. `PROMISING` lists the functions that have some
+//!   beside those equations; and a function that has no parameter, no result and an empty body is there for its
+//!   theorems alone. A theorem is of any form and may mention the answer, since it takes nothing from the
+//!   equations. Each has a name, which no other clause of the function has;
 //! - an `impl From` says what it gives: `ghost from_gives = { λ x y. y ≡ .. }`, an equation of the same kind; an
 //!   `impl TryFrom`, whose error is a struct of this file without fields, so that there is one, says for which values
 //!   it gives what: `ghost try_from_gives = { λ x y. result_ok y ≡ .. }`;
@@ -16,86 +17,31 @@
 //!   called so, since the result would be captured, and the contract would say nothing;
 //! - `≡` is that of the library's Prelude or of mathlib.Core.Path, and no `ghost use` gives `⌜`, `⌝`,
 //!   `∗`, `result`, or a projection of a reference another meaning.
-//! What it cannot read is listed too, and so is an exception that no function needs.
+//!
+//! What it cannot read is listed too, and so is a function of `PROMISING` without a theorem.
 //! It proves nothing. The exit status is 0 only where the list is empty.
+use contracts::text::{behind, bracketed, names, on_one_line, pieces, without_comments};
+use contracts::{functions, is_term, Head};
 use std::path::{Path, PathBuf};
 use std::{env, fs, process};
 
-/// Public functions whose `ensures` are no such equations, each with the reason why all that it
-/// answers is settled still.
-const EXCEPTIONS: &[(&str, &str)] = &[
+/// Public functions that do some work and whose `ensures` have theorems, each with the reason.
+const PROMISING: &[(&str, &str)] = &[
     (
-        "replay::run_to",
-        "the record RanTo of replay/specs/Coded.antt has one equation for each of the two fields of the \
-         result, same_bench and same_reply, whose right sides leave the result out",
+        "replay::run",
+        "demand 3 is of the very calls that it was handed, with the bench and the answers that they left",
     ),
     (
-        "bench::feed::judge",
-        "the refusal's number is an equation, and tells every error from every other and from Ok; of Ok the second \
-         clause says that its value is the one that came",
-    ),
-    (
-        "frames::write",
-        "the refusal's number is an equation, and tells every error from every other and from Ok, which holds nothing",
+        "replay::fly",
+        "demand 3 and page twelve are of the very flight that it answers",
     ),
 ];
-
-/// Definitions under which a result may stand in its equation, each with the theorem that says that different
-/// answers have different values.
-const FAITHFUL: &[(&str, &str)] = &[
-    ("as_started", "replay/specs/Told.antt: started"),
-    ("as_answer", "replay/specs/Told.antt: answer"),
-    ("as_event_answer", "replay/specs/Told.antt: event"),
-    ("as_display_answer", "replay/specs/Told.antt: display"),
-    ("as_picked", "promises/specs/Answers.antt: picked"),
-    ("as_read", "promises/specs/Answers.antt: read"),
-    ("as_ran", "replay/specs/Told.antt: ran"),
-    ("as_area_answer", "promises/specs/Answers.antt: area"),
-    ("as_taken", "promises/specs/Answers.antt: taken"),
-];
-
-/// The words that may stand before `fn`.
-const QUALIFIERS: [&str; 4] = ["pub", "pub(crate)", "extern", "\"C\""];
-
-const CLAUSES: [&str; 3] = ["requires", "ensures", "ghost"];
 
 /// Where `≡` comes from.
 const EQUALITY: [&str; 2] = ["Rattle.std.specs.Prelude.{", "mathlib.Core.Path.{"];
 
 /// Names that no `ghost use` may give another meaning: the result, and what a reference points to.
 const READINGS: [&str; 5] = ["result", "now", "old", "new", "exit"];
-
-/// Operators of numbers, flags and lists, which a right side may have outside of brackets, since no
-/// equation can be their operand. An operator of propositions could join the equation to another.
-const OPERATORS: [&str; 10] = ["+", "*", "/", "%", "^", "+ℤ", "*ℤ", "&&", "||", "∷"];
-
-/// A clause before a body.
-struct Clause {
-    kind: String,
-    /// what stands between the kind and the brace
-    name: String,
-    text: String,
-}
-
-/// A function's head, as far as its body.
-struct Head {
-    name: String,
-    public: bool,
-    /// names and types
-    parameters: Vec<(String, String)>,
-    /// the type of the result, if there is one
-    answer: Option<String>,
-    clauses: Vec<Clause>,
-}
-
-impl Head {
-    fn of_kind(&self, kind: &str) -> Vec<&str> {
-        // a starred clause, of memory, is of its kind too
-        let is = |clause: &&Clause| clause.kind.trim_end_matches('*') == kind;
-        let clauses = self.clauses.iter().filter(is);
-        clauses.map(|clause| clause.text.as_str()).collect()
-    }
-}
 
 /// The sources below a folder, `depth` folders below that of the crates.
 fn sources(folder: &Path, depth: usize, found: &mut Vec<PathBuf>) {
@@ -114,185 +60,6 @@ fn sources(folder: &Path, depth: usize, found: &mut Vec<PathBuf>) {
     }
 }
 
-fn without_comments(text: &str) -> String {
-    let lines = text
-        .lines()
-        .map(|line| line.split("//").next().unwrap_or(""));
-    lines.collect::<Vec<_>>().join("\n")
-}
-
-/// What stands between the bracket at the start of `text` and its partner, and what follows that.
-fn bracketed(text: &str, open: char, close: char) -> Option<(&str, &str)> {
-    let mut depth = 0;
-    for (at, c) in text.char_indices() {
-        if c == open {
-            depth += 1;
-        } else if c == close {
-            depth -= 1;
-        }
-        if at == 0 && depth != 1 {
-            return None;
-        }
-        if depth == 0 {
-            return Some((&text[open.len_utf8()..at], &text[at + close.len_utf8()..]));
-        }
-    }
-    None
-}
-
-/// The pieces of a text between the characters that are asked for and stand outside of brackets.
-fn pieces(text: &str, wanted: impl Fn(char) -> bool) -> Vec<&str> {
-    let (mut found, mut depth, mut from) = (Vec::new(), 0, 0);
-    for (at, c) in text.char_indices() {
-        match c {
-            '(' | '[' | '{' => depth += 1,
-            ')' | ']' | '}' => depth -= 1,
-            _ if depth == 0 && wanted(c) => {
-                found.push(&text[from..at]);
-                from = at + c.len_utf8();
-            }
-            _ => {}
-        }
-    }
-    found.push(&text[from..]);
-    found
-}
-
-fn on_one_line(text: &str) -> String {
-    text.split_whitespace().collect::<Vec<_>>().join(" ")
-}
-
-fn in_name(c: char) -> bool {
-    c.is_alphanumeric() || c == '_'
-}
-
-/// The words before a function, without the attributes.
-fn qualifiers(before: &str) -> Option<Vec<&str>> {
-    let (mut found, mut rest) = (Vec::new(), before);
-    while let Some((words, attribute)) = rest.split_once('#') {
-        found.extend(words.split_whitespace());
-        let attribute = attribute.strip_prefix('!').unwrap_or(attribute);
-        rest = bracketed(attribute, '[', ']')?.1;
-    }
-    found.extend(rest.split_whitespace());
-    found
-        .iter()
-        .all(|word| QUALIFIERS.contains(word))
-        .then_some(found)
-}
-
-fn parameters(text: &str) -> Vec<(String, String)> {
-    let each = pieces(text, |c| c == ',').into_iter();
-    let pair = |piece: &str| {
-        // a method's self may be lent as any other parameter is
-        if on_one_line(piece) == "&mut self" {
-            return Some(("self".to_string(), "&mut Self".to_string()));
-        }
-        let (name, kind) = piece.split_once(':')?;
-        let name = name.trim().trim_start_matches("mut ").trim();
-        Some((name.to_string(), kind.trim().to_string()))
-    };
-    each.filter_map(pair).collect()
-}
-
-/// Whether a semicolon, outside of brackets, comes before a brace.
-fn ends_at_once(rest: &str) -> bool {
-    let head = rest.split('{').next().unwrap_or("");
-    pieces(head, |c| c == ';').len() > 1
-}
-
-/// The clauses of a function, and whether a body follows them.
-fn clauses(mut rest: &str, in_trait: bool) -> Option<(Vec<Clause>, bool)> {
-    let mut found = Vec::<Clause>::new();
-    loop {
-        if !found.is_empty() && rest.trim_start().starts_with(';') {
-            return Some((found, false));
-        }
-        if found.is_empty() && in_trait && ends_at_once(rest) {
-            return Some((found, false));
-        }
-        let brace = rest.find('{')?;
-        let before = &rest[..brace];
-        let words: Vec<&str> = before.split_whitespace().collect();
-        if pieces(before, |c| c == ';').len() > 1 {
-            // the function has no body, and the brace is another's
-            return None;
-        }
-        let is_kind = |word: &&str| CLAUSES.contains(&word.trim_end_matches('*'));
-        let Some(at) = words.iter().position(is_kind) else {
-            let known = found.is_empty() || words.is_empty();
-            return known.then_some((found, true));
-        };
-        let name = words[at + 1..].join(" ");
-        let named = name
-            .trim_end_matches(':')
-            .chars()
-            .all(|c| in_name(c) || c == '-');
-        if !named || at > 0 && !found.is_empty() {
-            return None;
-        }
-        let (text, after) = bracketed(&rest[brace..], '{', '}')?;
-        let (kind, text) = (words[at].to_string(), text.to_string());
-        found.push(Clause { kind, name, text });
-        rest = after;
-    }
-}
-
-/// What follows the type parameters that a text begins with. The bound of a closure has an arrow.
-fn behind_generics(text: &str) -> Option<&str> {
-    let mut depth = 0;
-    for (at, c) in text.char_indices() {
-        match c {
-            '<' => depth += 1,
-            '>' if !text[..at].ends_with('-') => depth -= 1,
-            '{' | '}' => return None,
-            _ => {}
-        }
-        if depth == 0 {
-            return Some(&text[at + 1..]);
-        }
-    }
-    None
-}
-
-/// Of a place in the braces of a trait, whether the trait is public.
-fn enclosing_trait(before: &str) -> Option<bool> {
-    // items begin at the left edge, and a brace there ends them
-    let edge = |line: &&str| line.starts_with(in_name) || line.starts_with('}');
-    let mut words = before.lines().filter(edge).next_back()?.split_whitespace();
-    let public = words.clone().next() == Some("pub");
-    (words.find(|word| !word.starts_with("pub")) == Some("trait")).then_some(public)
-}
-
-/// The head whose `fn` stands at a place of the text, if it can be read.
-fn head(text: &str, at: usize) -> Option<Head> {
-    let before = text[..at].rsplit([';', '{', '}']).next()?;
-    let words = qualifiers(before)?;
-    let rest = text[at + 2..].trim_start();
-    let (name, mut rest) = rest.split_at(rest.find(|c| !in_name(c))?);
-    if rest.starts_with('<') {
-        rest = behind_generics(rest)?;
-    }
-    let (inner, after) = bracketed(rest, '(', ')')?;
-    let answer = after.trim_start().strip_prefix("->");
-    let kind = |answer: &str| answer.split('{').next().unwrap_or("").trim().to_string();
-    let asked_for = enclosing_trait(&text[..at]);
-    let (clauses, body) = clauses(after, asked_for.is_some())?;
-    Some(Head {
-        name: name.to_string(),
-        public: words.contains(&"pub") || !body && asked_for == Some(true),
-        parameters: parameters(inner),
-        answer: answer.map(kind),
-        clauses,
-    })
-}
-
-/// The names in a text of clauses, each part of a name with dots by itself.
-fn names(text: &str) -> impl Iterator<Item = &str> {
-    let words = text.split(|c: char| !(in_name(c) || c == '-' || c == '\''));
-    words.map(|word| word.trim_matches(['-', '\'']))
-}
-
 /// The items of a file that give a meaning of their own to what the contracts are made of.
 fn strange_items(text: &str) -> Vec<String> {
     let items = text
@@ -306,41 +73,6 @@ fn strange_items(text: &str) -> Vec<String> {
     };
     let strange = items.map(|(_, item)| item).filter(strange);
     strange.map(|item| format!("ghost use {item}")).collect()
-}
-
-/// The heads of a file's functions, and the lines that cannot be read.
-fn heads(text: &str) -> (Vec<Head>, Vec<String>) {
-    let block = text.lines().filter(|line| line.contains("/*"));
-    let (mut found, mut unread) = (Vec::new(), block.map(str::to_string).collect::<Vec<_>>());
-    for (at, _) in text.match_indices("fn") {
-        let space = text[at + 2..].starts_with(char::is_whitespace);
-        if text[..at].ends_with(in_name) || !space {
-            continue;
-        }
-        let start = text[..at].rfind('\n').map_or(0, |end| end + 1);
-        let line = text[start..].lines().next().unwrap_or("");
-        match head(text, at) {
-            Some(head) => found.push(head),
-            None => unread.push(line.to_string()),
-        }
-    }
-    (found, unread)
-}
-
-/// The text behind each place of a mark.
-fn behind<'a>(text: &'a str, mark: &'a str) -> impl Iterator<Item = &'a str> {
-    text.match_indices(mark)
-        .map(move |(at, _)| &text[at + mark.len()..])
-}
-
-/// Whether a text mentions the result, or what a reference points to at the end. `new` alone can be a
-/// parameter.
-fn speaks(text: &str, parameters: &[(String, String)]) -> bool {
-    let text = text.replace(['«', '»'], "");
-    let left = |rest: &str| names(rest.trim_start()).next() == Some("new");
-    let parameter = parameters.iter().any(|(name, _)| name == "new");
-    let said = |name: &str| name == "result" || name == "exit" || name == "new" && !parameter;
-    names(&text).any(said) || behind(&text, ".").any(left)
 }
 
 /// Whether a clause has a variable of its own that is called as the result is.
@@ -360,108 +92,43 @@ fn captures(text: &str) -> bool {
         || cases[..cases.len() - 1].iter().copied().any(case)
 }
 
-/// Whether a word of a right side, outside of brackets, can only be a part of a term.
-fn is_of_a_term(word: &str) -> bool {
-    let first = word.split(['(', '[', '{']).next().unwrap_or("");
-    let named = first.chars().all(|c| in_name(c) || "-'.«»".contains(c));
-    word != "λ" && (named || OPERATORS.contains(&word))
-}
-
-/// What stands under one of `FAITHFUL` on a left side.
-fn under(left: &str) -> Option<&str> {
-    let (word, rest) = left.split_once(char::is_whitespace)?;
-    let faithful = FAITHFUL.iter().any(|(known, _)| *known == word);
-    faithful.then_some(rest.trim())
-}
-
-/// Of an answer that is made of the result and of what a reference points to: that place.
-fn place_of_answer(term: &str) -> Option<&str> {
-    let fields = term.strip_prefix("(record { outcome = result; bench = ")?;
-    let place = fields.strip_suffix(" })")?;
-    let name = place.strip_suffix(".new").or(place.strip_suffix(".now"))?;
-    name.chars().all(in_name).then_some(place)
-}
-
-/// What the left side of a clause settles, if it is an equation.
-fn equation(head: &Head, clause: &Clause) -> Option<Vec<String>> {
-    let sides = pieces(&clause.text, |c| c == '≡');
-    let [left, right] = sides[..] else {
-        return None;
-    };
-    let apart = left.ends_with(char::is_whitespace) && right.starts_with(char::is_whitespace);
-    let left = left.replace(['«', '»'], "").trim().to_string();
-    // an ArrayVec is its items
-    let is_items = |name: &str| {
-        let named = |(known, kind): &(String, String)| known == name && kind.contains("ArrayVec<");
-        head.parameters.iter().any(named)
-    };
-    let left = match left.strip_suffix(".new.items") {
-        Some(name) if is_items(name) => format!("{name}.new"),
-        _ => left,
-    };
-    let place = left.strip_suffix(".new");
-    let lent = head
-        .answer
-        .as_ref()
-        .is_some_and(|kind| kind.starts_with('&'));
-    let told = under(&left);
-    let settled = if told == Some("result") {
-        vec!["result".to_string()]
-    } else if let Some(place) = told.and_then(place_of_answer) {
-        vec!["result".to_string(), place.to_string()]
-    } else if left == "result"
-        || left == "result.now" && lent
-        || place.is_some_and(|place| place.chars().all(in_name))
-    {
-        vec![left]
-    } else {
-        return None;
-    };
-    let words = pieces(right, char::is_whitespace);
-    let term = words.iter().all(|word| is_of_a_term(word)) && !right.trim().is_empty();
-    let fact = apart && !clause.kind.ends_with('*');
-    (fact && term && !speaks(right, &head.parameters)).then_some(settled)
-}
-
-/// What the `ensures` of a public function leave open of its answer.
-fn left_open(head: &Head) -> Vec<String> {
-    let ensures = head
-        .clauses
-        .iter()
-        .filter(|clause| clause.kind.starts_with("ensures"));
-    let each: Option<Vec<_>> = ensures.map(|clause| equation(head, clause)).collect();
-    let Some(sides) = each else {
+/// What is wrong with the `ensures` of a public function, which is in `PROMISING` or not.
+fn open(head: &Head, promising: bool) -> Vec<String> {
+    let theorems = head.theorems();
+    if !theorems.is_empty() && !promising && !head.only_states {
         return vec!["has an ensures that is no equation which settles its answer".to_string()];
-    };
-    let sides = sides.concat();
+    }
     let mut found = Vec::new();
+    let same = |name: &str| {
+        let ensures = head.of_kind("ensures");
+        ensures.filter(|clause| clause.name == name).count()
+    };
+    let own = |name: &str| !name.is_empty() && same(name) == 1;
+    if !theorems.iter().all(|theorem| own(&theorem.name)) {
+        found.push("has a theorem without a name of its own".to_string());
+    }
+    let settled = head.settled();
     let of_result = |side: &String| side == "result" || side == "result.now";
-    if head.answer.is_some() && !sides.iter().any(of_result) {
+    if head.answer.is_some() && !settled.iter().any(of_result) {
         found.push("has no equation on its result".to_string());
     }
-    for (name, kind) in &head.parameters {
-        let written = kind.starts_with('&') && kind.split_whitespace().any(|w| w.ends_with("mut"));
-        if written && !sides.contains(&format!("{name}.new")) {
-            found.push(format!("has no equation on what {name} holds at the end"));
-        }
-    }
+    let written = head.written().into_iter();
+    let open = written.filter(|name| !settled.contains(&format!("{name}.new")));
+    found.extend(open.map(|name| format!("has no equation on what {name} holds at the end")));
     found
 }
 
-fn faults(head: &Head, excepted: bool) -> Vec<String> {
+fn faults(head: &Head, promising: bool) -> Vec<String> {
     let mut found = Vec::new();
-    let ensures = head.of_kind("ensures");
-    let speak = |clause: &&str| speaks(clause, &head.parameters);
-    if head.public && ensures.is_empty() {
+    let has = |kind| head.of_kind(kind).next().is_some();
+    if head.public && !has("ensures") {
         found.push("is public and has no ensures".to_string());
-    } else if head.public && !excepted {
-        let open = left_open(head).into_iter();
+    } else if head.public {
+        let open = open(head, promising).into_iter();
         found.extend(open.map(|open| format!("is public and {open}")));
-    } else if head.public && !ensures.iter().all(speak) {
-        found.push("is public and has an ensures that is silent on its result".to_string());
     }
     for kind in ["requires", "ghost"] {
-        if head.public && !head.of_kind(kind).is_empty() {
+        if head.public && has(kind) {
             found.push(format!("is public and has a {kind}"));
         }
     }
@@ -472,28 +139,15 @@ fn faults(head: &Head, excepted: bool) -> Vec<String> {
         found.push("has a parameter or a ghost value called result".to_string());
     }
     // of an equation its form says more
-    let free = !head.public || excepted;
+    let free = !head.public || promising || head.only_states;
     if free && head.clauses.iter().any(|clause| captures(&clause.text)) {
         found.push("has a clause with a variable called result".to_string());
     }
-    if free
-        && ensures
-            .iter()
-            .any(|clause| clause.trim_start().starts_with('λ'))
-    {
+    let mut ensures = head.of_kind("ensures");
+    if free && ensures.any(|clause| clause.text.trim_start().starts_with('λ')) {
         found.push("has an ensures with a name of its own for the result".to_string());
     }
     found
-}
-
-/// The name of the module that a file is, from its path in the folder of the crates.
-fn module(path: &str) -> String {
-    let path = path.trim_end_matches(".rt");
-    match path.split_once("/src/") {
-        Some((name, "lib" | "main")) => name.to_string(),
-        Some((name, inner)) => format!("{name}::{}", inner.replace('/', "::")),
-        None => path.to_string(),
-    }
 }
 
 /// The conversions of a file that do not say what they give.
@@ -549,21 +203,19 @@ fn gives(body: &str, member: &str, part: &str) -> bool {
     let ([_, given], [left, right]) = (&bound[..], &sides[..]) else {
         return false;
     };
-    let words = pieces(right, char::is_whitespace);
     left.trim() == format!("{part}{given}")
-        && !right.trim().is_empty()
-        && words.iter().all(|word| is_of_a_term(word))
+        && is_term(right)
         && names(right).all(|name| name != *given)
 }
 
 /// The number of functions of the files, each given by its path and text, and all faults.
-fn report(files: &[(String, String)], exceptions: &[(&str, &str)]) -> (usize, Vec<String>) {
-    let (mut functions, mut found) = (0, Vec::new());
-    let mut stale: Vec<&str> = exceptions.iter().map(|(name, _)| *name).collect();
+fn report(files: &[(String, String)], promising: &[(&str, &str)]) -> (usize, Vec<String>) {
+    let (mut count, mut found) = (0, Vec::new());
+    let mut stale: Vec<&str> = promising.iter().map(|(name, _)| *name).collect();
     for (path, text) in files {
+        let (heads, unread) = functions(path, text);
         let text = without_comments(text);
-        let (heads, unread) = heads(&text);
-        functions += heads.len();
+        count += heads.len();
         let strange = strange_items(&text).into_iter();
         found.extend(
             strange.map(|item| format!("{path}: a sign of contracts from elsewhere: {item}")),
@@ -573,18 +225,18 @@ fn report(files: &[(String, String)], exceptions: &[(&str, &str)]) -> (usize, Ve
         let unread = unread.iter().map(|line| line.trim());
         found.extend(unread.map(|line| format!("{path}: cannot be read: {line}")));
         for head in &heads {
-            let name = format!("{}::{}", module(path), head.name);
-            let excepted = exceptions.iter().any(|(known, _)| *known == name);
-            if head.public && !left_open(head).is_empty() {
+            let name = head.path();
+            let listed = promising.iter().any(|(known, _)| *known == name);
+            if head.public && !head.theorems().is_empty() {
                 stale.retain(|known| *known != name);
             }
-            let each = faults(head, excepted).into_iter();
+            let each = faults(head, listed).into_iter();
             found.extend(each.map(|fault| format!("{path}: fn {} {fault}", head.name)));
         }
     }
     let stale = stale.into_iter();
-    found.extend(stale.map(|name| format!("EXCEPTIONS: no function needs the one of {name}")));
-    (functions, found)
+    found.extend(stale.map(|name| format!("PROMISING: no function {name} has a theorem")));
+    (count, found)
 }
 
 fn main() {
@@ -601,21 +253,28 @@ fn main() {
         .iter()
         .map(|path| (within(path), text(path)))
         .collect();
-    let (functions, faults) = report(&files, EXCEPTIONS);
+    let (count, faults) = report(&files, PROMISING);
     for fault in &faults {
         println!("{fault}");
     }
-    println!("{functions} functions in {} files", files.len());
-    process::exit(i32::from(!faults.is_empty() || functions == 0));
+    println!("{count} functions in {} files", files.len());
+    process::exit(i32::from(!faults.is_empty() || count == 0));
 }
 
 #[cfg(test)]
 mod tests {
     use super::*;
 
-    /// The faults of a file of the crate low, with no exceptions.
+    /// The faults of a file of the crate low, some of whose functions are listed as `PROMISING`.
+    fn with(listed: &[&str], text: &str) -> Vec<String> {
+        let listed: Vec<_> = listed.iter().map(|name| (*name, "")).collect();
+        let file = ("low/src/lib.rt".to_string(), text.to_string());
+        report(&[file], &listed).1
+    }
+
+    /// The same, where none is listed.
     fn said(text: &str) -> Vec<String> {
-        report(&[("low/src/lib.rt".to_string(), text.to_string())], &[]).1
+        with(&[], text)
     }
 
     /// The faults of a public function of a number and a slice, with these clauses.
@@ -648,7 +307,6 @@ mod tests {
             "fn f<T: Fn<u8>>(a: [u8; 2]) -> [u8; 2] {\n}\n",
             "fn f<F: FnMut(&mut [u8; 2], u8) -> u8>(a: F) -> [u8; 2] {\n}\n",
             "pub(crate) trait T {\n    fn f(x: u8) -> u8;\n\n    fn g(x: u8) -> [u8; 2];\n}\n",
-            "pub fn f(x: u8) -> u8\n    ensures { as_answer result ≡ x }\n{\n    x\n}\n",
             "pub trait T {\n    ghost g: { Self → ℕ → ℕ };\n\n    fn f(self, x: u8) -> u8\n        ensures { result ≡ g self x };\n}\n",
         ];
         for text in good {
@@ -675,8 +333,6 @@ mod tests {
             "pub trait T {\n    fn f(self, x: u8) -> u8\n        ensures { result ≤ x };\n}\n",
             "pub trait T {\n    fn f(x: u8) -> [u8; 2];\n}\n",
             "pub fn f(x: u8) -> u8\n    ensures { first_of result ≡ x }\n{\n    x\n}\n",
-            "pub fn f(x: u8) -> u8\n    ensures { as_answer result ≡ as_answer result }\n{\n    x\n}\n",
-            "pub fn f(x: u8) -> u8\n    ensures { as_answer x ≡ x }\n{\n    x\n}\n",
         ];
         for text in faulty {
             assert_eq!(said(text).len(), 1, "{text}");
@@ -693,30 +349,6 @@ mod tests {
         let both = "ensures answer { result ≡ x }\n    ensures place { self.new ≡ f self.old x }";
         assert_eq!(of(both), Vec::<String>::new());
         assert_eq!(of("ensures { result ≡ x }").len(), 1);
-    }
-
-    #[test]
-    fn an_answer_may_be_made_of_the_result_and_a_place() {
-        let of = |reference: &str, clause: &str| {
-            said(&format!(
-                "pub fn f(b: {reference}Bench, x: u8) -> R\n    ensures {{ {clause} }}\n{{\n}}\n"
-            ))
-        };
-        let made = "as_answer (record { outcome = result; bench = b.new }) ≡ answer b.old x";
-        assert_eq!(of("&mut ", made), Vec::<String>::new());
-        let looked = "as_answer (record { outcome = result; bench = b.now }) ≡ answer b.now x";
-        assert_eq!(of("&", looked), Vec::<String>::new());
-        let faulty = [
-            "as_answer (record { outcome = result; bench = b.now }) ≡ answer b.old x",
-            "as_answer (record { outcome = x; bench = b.new }) ≡ answer b.old x",
-            "as_answer (record { outcome = result; bench = f b.new }) ≡ answer b.old x",
-            "as_answer (record { outcome = result; bench = b.new }) ≡ answer b.new x",
-            "refusal_number (record { outcome = result; bench = b.new }) ≡ answer b.old x",
-            "as_answer result ≡ answer b.old x",
-        ];
-        for clause in faulty {
-            assert_eq!(of("&mut ", clause).len(), 1, "{clause}");
-        }
     }
 
     #[test]
@@ -842,7 +474,7 @@ mod tests {
     fn words_that_are_no_function_are_passed_over() {
         let text = "struct fn_of {\n    defn : u8,\n}\n// pub const fn f\nfn f(x: u8) {\n}\n";
         assert_eq!(said(text), Vec::<String>::new());
-        assert_eq!(heads(&without_comments(text)).0.len(), 1);
+        assert_eq!(functions("low/src/lib.rt", text).0.len(), 1);
     }
 
     #[test]
@@ -965,24 +597,180 @@ mod tests {
     }
 
     #[test]
-    fn an_exception_is_needed_and_speaks_of_the_result() {
-        let file = |path: &str, fact: &str| {
-            let text = format!("pub fn f(x: u8) -> u8\n    ensures {{ {fact} }}\n{{\n}}\n");
-            vec![(path.to_string(), text)]
+    fn nothing_stands_around_the_result_or_a_place() {
+        let around = [
+            "told 32 result ≡ f x",
+            "as_answer result ≡ f x",
+            "refusal_number result ≡ f x",
+            "(result) ≡ f x",
+            "record { outcome = result; bench = y.new } ≡ f x",
+        ];
+        for answer in around {
+            assert_eq!(of_fact(answer).len(), 1, "{answer}");
+            let clauses = format!("ensures a {{ {answer} }}\n    ensures b {{ y.new ≡ f x }}");
+            assert_eq!(of_clauses(&clauses).len(), 1, "{answer}");
+        }
+        let written = "ensures a { result ≡ x }\n    ensures b { told y.new ≡ f x }";
+        assert_eq!(of_clauses(written).len(), 1);
+        // a place that is not written settles nothing
+        let read = "ensures a { result ≡ x }\n    ensures b { y.new ≡ f x }\n    ensures c { x.new ≡ f x }";
+        assert_eq!(of_clauses(read).len(), 1);
+    }
+
+    /// A public function of a number and a slice, as in `of_clauses`, that is listed.
+    fn of_listed(clauses: &str) -> Vec<String> {
+        let text = format!("pub fn f(x: u8, y: &mut [u8]) -> u8\n    {clauses}\n{{\n}}\n");
+        with(&["low::f"], &text)
+    }
+
+    const EQUATIONS: &str = "ensures a { result ≡ x }\n    ensures b { y.new ≡ f x }";
+
+    #[test]
+    fn a_listed_function_has_theorems_beside_its_equations() {
+        let good = [
+            "ensures c { Claim x }",
+            "ensures c { Claim result y.new }",
+            "ensures c { told 32 result ≡ f x }",
+            "ensures c { sound y.old ≡ true → result ≡ x }\n    ensures d { y.new ≡ f y.new }",
+        ];
+        for theorems in good {
+            let clauses = format!("{EQUATIONS}\n    {theorems}");
+            assert_eq!(of_listed(&clauses), Vec::<String>::new(), "{theorems}");
+            assert_eq!(of_clauses(&clauses).len(), 1, "{theorems}");
+        }
+    }
+
+    #[test]
+    fn the_functions_of_the_list_settle_what_they_answer() {
+        let run = "pub fn run(b: &mut Bench, calls: &[Call], answers: &mut [Result<Reply, Refusal>])
+    ensures bench { b.new ≡ after b.old (calls_to calls.now answers.old) }
+    ensures answers { answers.new ≡ laid (replies b.old (calls_to calls.now answers.old)) answers.old }
+    ensures claim { sound b.old ≡ true → Claim b.old calls.now answers.new }
+{
+    work();
+}
+";
+        let fly = "pub fn fly(speed: i32, calls: &[Call], answers: &mut [Result<Reply, Refusal>]) -> Flight
+    ensures flight { result ≡ flown speed (calls_to calls.now answers.old) }
+    ensures answers { answers.new ≡ laid (told speed calls.now) answers.old }
+    ensures claim { Claim speed calls.now answers.new }
+    ensures page_twelve { Guided result }
+{
+    work()
+}
+";
+        let faults = |text: &str| {
+            let file = ("replay/src/lib.rt".to_string(), text.to_string());
+            report(&[file], PROMISING).1.len()
         };
-        let faults = |files: &[_], name| report(files, &[(name, "")]).1;
-        let open = file("low/src/lib.rt", "Small x result");
-        assert!(faults(&open, "low::f").is_empty());
-        assert_eq!(faults(&open, "low::g").len(), 2);
-        assert_eq!(
-            faults(&file("low/src/lib.rt", "result ≡ x"), "low::f").len(),
-            1
-        );
-        assert_eq!(faults(&file("low/src/lib.rt", "x ≡ x"), "low::f").len(), 1);
-        let bound = file("low/src/lib.rt", "let result = x in Small x result");
-        assert_eq!(faults(&bound, "low::f").len(), 1);
-        let inner = file("low/src/a/b.rt", "Small x result");
-        assert!(faults(&inner, "low::a::b::f").is_empty());
-        assert_eq!(faults(&inner, "low::f").len(), 2);
+        let both = format!("{run}\n{fly}");
+        assert_eq!(faults(&both), 0);
+        for line in both.lines().filter(|line| line.contains("ensures")) {
+            let theorem = line.contains("Claim") || line.contains("Guided");
+            let lost = both.replace(&format!("{line}\n"), "");
+            // of two theorems one is enough for the list
+            let missed = !theorem || line.contains("b.old");
+            assert_eq!(faults(&lost), usize::from(missed), "{line}");
+        }
+    }
+
+    #[test]
+    fn a_theorem_settles_nothing() {
+        let result = "ensures a { result ≡ x }";
+        let place = "ensures b { y.new ≡ f x }";
+        let lost = [
+            format!("{result}\n    ensures c {{ Claim y.new }}"),
+            format!("{place}\n    ensures c {{ Claim result }}"),
+            format!("{place}\n    ensures c {{ told 32 result ≡ f x }}"),
+            format!("{place}\n    ensures c {{ result ≡ x → True }}"),
+            format!("{place}\n    ensures c {{ result ≡ f result }}"),
+            format!("{result}\n    ensures c {{ y.new ≡ f result }}"),
+            format!("{result}\n    ensures c {{ y.old ≡ f x }}"),
+            format!("{result}\n    ensures* c {{ ⌜ y.new ≡ f x ⌝ }}"),
+        ];
+        for clauses in lost {
+            assert_eq!(of_listed(&clauses).len(), 1, "{clauses}");
+        }
+        assert_eq!(of_listed("ensures c { told 32 result ≡ f x }").len(), 2);
+    }
+
+    #[test]
+    fn a_theorem_has_a_name_of_its_own() {
+        let unnamed = [
+            "ensures { Claim x }",
+            "ensures a { Claim x }",
+            "ensures c { Claim x }\n    ensures c { Other x }",
+            "ensures { Claim x }\n    ensures d { Other x }",
+        ];
+        for theorems in unnamed {
+            let clauses = format!("{EQUATIONS}\n    {theorems}");
+            assert_eq!(of_listed(&clauses).len(), 1, "{theorems}");
+            let bare = format!("pub fn f()\n    ensures a {{ First }}\n    {theorems}\n{{\n}}\n");
+            assert_eq!(said(&bare).len(), 1, "{theorems}");
+        }
+        assert_eq!(said("pub fn f()\n    ensures { Laws }\n{\n}\n").len(), 1);
+    }
+
+    #[test]
+    fn a_theorem_does_not_capture_the_result() {
+        let captured = [
+            "let result = x in Claim result",
+            "All (λ result. result ≡ result) []",
+            "λ r. Claim r",
+        ];
+        for theorem in captured {
+            let clauses = format!("{EQUATIONS}\n    ensures c {{ {theorem} }}");
+            assert_eq!(of_listed(&clauses).len(), 1, "{theorem}");
+        }
+    }
+
+    #[test]
+    fn a_function_that_does_nothing_has_theorems_alone() {
+        let good = [
+            "pub fn f()\n    ensures laws { Laws }\n{\n}\n",
+            "pub fn f() ensures laws { Laws } {}\n",
+            "#[tactic(auto, using(laws))]\npub fn f()\n    ensures laws { Laws }\n    ensures guides { (n : ℕ) → Guides n }\n{\n    // nothing\n}\n",
+        ];
+        for text in good {
+            assert_eq!(said(text), Vec::<String>::new(), "{text}");
+        }
+        let theorem = "\n    ensures laws { Laws }\n";
+        let faulty = [
+            format!("pub fn f(x: u8){theorem}{{\n}}\n"),
+            format!("pub fn f(_: ()){theorem}{{\n}}\n"),
+            format!("pub fn f<T>(){theorem}{{\n}}\n"),
+            format!("pub fn f() -> u8{theorem}{{\n}}\n"),
+            format!("pub fn f() -> (){theorem}{{\n}}\n"),
+            format!("pub fn f(){theorem}{{\n    g();\n}}\n"),
+            format!("pub fn f(){theorem}{{\n    ()\n}}\n"),
+            format!("pub fn f(){theorem}{{\n    {{}}\n}}\n"),
+            format!("pub fn f()\n    requires {{ ⊥ }}{theorem}{{\n}}\n"),
+            format!("pub fn f()\n    ghost none: {{ ⊥ }}{theorem}{{\n}}\n"),
+            format!("impl S {{\n    pub fn f(){theorem}    {{\n    }}\n}}\n"),
+            format!("impl S {{\n    pub fn f(self){theorem}    {{\n    }}\n}}\n"),
+            format!("pub trait T {{\n    fn f(){theorem}    ;\n}}\n"),
+            "pub fn f() {\n}\n".to_string(),
+        ];
+        for text in faulty {
+            assert_eq!(said(&text).len(), 1, "{text}");
+        }
+    }
+
+    #[test]
+    fn the_list_has_no_other_function() {
+        let theorem = "pub fn f(x: u8) -> u8\n    ensures a { result ≡ x }\n    ensures c { Small x result }\n{\n}\n";
+        assert_eq!(with(&["low::f"], theorem), Vec::<String>::new());
+        assert_eq!(with(&["low::g"], theorem).len(), 2);
+        assert_eq!(with(&["low::f", "low::g"], theorem).len(), 1);
+        let plain = "pub fn f(x: u8) -> u8\n    ensures { result ≡ x }\n{\n}\n";
+        assert_eq!(with(&["low::f"], plain).len(), 1);
+        let hidden = theorem.replace("pub fn", "pub(crate) fn");
+        assert_eq!(with(&["low::f"], &hidden).len(), 1);
+        let method = format!("impl S {{\n    {}}}\n", theorem.replace('\n', "\n    "));
+        assert_eq!(with(&["low::S::f"], &method), Vec::<String>::new());
+        assert_eq!(with(&["low::f"], &method).len(), 2);
+        let inner = [("low/src/a/b.rt".to_string(), theorem.to_string())];
+        assert!(report(&inner, &[("low::a::b::f", "")]).1.is_empty());
+        assert_eq!(report(&inner, &[("low::f", "")]).1.len(), 2);
     }
 }

@@ -1,7 +1,8 @@
 //! docs/wrong-answers.txt against the tree. A line of it is `crate NAME` or `edit NAME/LABEL KIND`, with
 //! the word `unfit` behind it where the edit is refused by a proof that no longer fits; a # starts a
 //! comment.
-use crate::{crates_of, edit, Report, Tree};
+use crate::edit::{self, Edit};
+use crate::{crates_of, Report, Tree};
 use std::collections::{BTreeMap, BTreeSet};
 
 pub const LIST: &str = "docs/wrong-answers.txt";
@@ -49,16 +50,19 @@ impl Listed {
     }
 }
 
-/// The edits that `rt` runs, by crate and label, with their text, and the other files of must-fail/.
-fn edits_of(tree: &Tree) -> (BTreeMap<String, &str>, Vec<String>) {
+/// The edits that `rt` runs, by crate and label, and the other files of must-fail/.
+fn edits_of(tree: &Tree) -> (BTreeMap<String, Edit>, Vec<String>) {
     let (mut found, mut strays) = (BTreeMap::new(), Vec::new());
     let crates = crates_of(tree);
     for (path, text) in tree {
         let parts: Vec<&str> = path.split('/').collect();
         match parts[..] {
             ["crates", name, "must-fail", file] if crates.iter().any(|known| known == name) => {
+                let source = |file: &str| tree.get(&format!("crates/{name}/{file}")).cloned();
                 match file.strip_suffix(".edit") {
-                    Some(label) => _ = found.insert(format!("{name}/{label}"), text.as_str()),
+                    Some(label) => {
+                        _ = found.insert(format!("{name}/{label}"), edit::read(text, source))
+                    }
                     None => strays.push(path.clone()),
                 }
             }
@@ -91,13 +95,10 @@ pub fn report(tree: &Tree) -> Report {
     let strays = strays.iter();
     faults.extend(strays.map(|path| format!("{path}: rt does not run it as an edit")));
     let mut counts = BTreeMap::new();
-    for (name, text) in &edits {
-        let edit = edit::read(text);
+    for (name, edit) in &edits {
         let kind = edit.kind().unwrap_or("neither");
         *counts.entry(kind).or_insert(0) += 1;
-        let crate_name = name.split('/').next().unwrap_or("");
-        let read = |file: &str| tree.get(&format!("crates/{crate_name}/{file}")).cloned();
-        let each = edit.faults().into_iter().chain(edit.in_contracts(read));
+        let each = edit.faults().into_iter().chain(edit.in_contracts());
         faults.extend(each.map(|fault| format!("{name} {fault}")));
         let said = listed.edits.get(name).map(|(said, _)| said);
         if said.is_some_and(|said| said != kind) {
@@ -134,7 +135,7 @@ pub fn written(tree: &Tree) -> String {
         lines.push(format!("crate {name}"));
         let own = |edit: &&String| edit.split('/').next() == Some(&name);
         for edit in edits.keys().filter(own) {
-            let kind = edit::read(edits[edit]).kind().unwrap_or("neither");
+            let kind = edits[edit].kind().unwrap_or("neither");
             let unfit = listed.edits.get(edit).is_some_and(|(_, unfit)| *unfit);
             lines.push(format!(
                 "edit {edit} {kind}{}",

@@ -1,15 +1,14 @@
-//! Holds the repository below ROOT to what it says of its wrong answers and of its promises. A wrong
-//! answer is an edit, crates/NAME/must-fail/LABEL.edit, which `rt` applies to a copy of the crate and
-//! which the prover must refuse.
+//! Holds the repository below ROOT to what it says of its wrong answers. A wrong answer is an edit,
+//! crates/NAME/must-fail/LABEL.edit, which `rt` applies to a copy of the crate and which the prover must
+//! refuse.
 //! - `edits list ROOT`: docs/wrong-answers.txt lists every crate and every edit, and each edit is one
 //!   that says something. With `--write` it writes the list anew from the tree.
 //! - `edits refused ROOT`, after `rt ci`: each edit was refused for a fact that does not hold, or its
 //!   line in the list has the word `unfit`.
-//! - `edits promised ROOT`: the record of all that is promised has its fields, and a value.
+//!
 //! They print what is wrong. The exit status is 0 only where nothing is.
 mod edit;
 mod list;
-mod promised;
 mod refused;
 
 use std::collections::BTreeMap;
@@ -93,9 +92,8 @@ fn main() {
             list::report(&tree)
         }
         ["refused", _] => refused::report(&tree, |path| text_at(root, path)),
-        ["promised", _] => promised::report(&tree),
         _ => {
-            println!("edits list ROOT [--write] | edits refused ROOT | edits promised ROOT");
+            println!("edits list ROOT [--write] | edits refused ROOT");
             process::exit(2);
         }
     };

@@ -421,6 +421,7 @@ mod tests {
             "./proofs/altsel_captured/Answers.antt:11:51: error: `returns-in-1-to-3`: expected type `Path Rattle.modes.specs.declared.Modes.Modes (Rattle.modes.specs.Sets.wi",
             "./proofs/modes_code/Answers.antt:14:34: error: `returns-then-not-is_coherent`: as printed, the two types differ only where one has `0` (expected), at the start,",
             "note: src/lib.rt:152:1: it is not proved that what the function ensures holds when it returns (`returns-in-5`); the facts known there allow values at which this",
+            "note: src/lib.rt:9:1: it is not proved that what the function ensures holds when it returns (`returns-clause-accepted`); the facts known there allow values at w",
             "note: src/lib.rt:93:5: it is not proved that the invariant of the loop holds (`loop-passed-init`)",
         ];
         for message in facts {

@@ -2,7 +2,7 @@
 use Rattle.std.proofs.Common.{◌≡◌, ◌≤◌, ℕ, List, length, refl}
 use Rattle.frames.specs.Frames.{area_written}
 use Rattle.frames.proofs.Laws.{frame_laws}
-use Rattle.areas.specs.declared.AreaAct.{AreaAct}
+use Rattle.scripts.specs.declared.AreaAct.{AreaAct}
 use Rattle.areas.specs.Areas.{poked_bytes, poked}
 use Rattle.areas.proofs.Areas.{poked_length, seen}
 use Rattle.areas.proofs.answer_in.Goals as goal
@@ -34,4 +34,4 @@ returns-in-Some-Writes-clause-new_area g c =
     let start = c.in-Some-Writes.start in
     let e : c.in-Some-Writes.field-0 ≡ AreaAct.Writes side start = cc in
     rw (c.in-Some-Writes.is, e, c.write-answer.ensures.new_area, seen_by.value)
-    (seen _ area (area_written c.args.b side start area) (fits _ area _ seen_by.value seen_by.fits) (frame_laws.same_length c.args.b side start area))
+    (seen _ area (area_written c.args.b.now side start area) (fits _ area _ seen_by.value seen_by.fits) (frame_laws.same_length c.args.b.now side start area))
