@@ -23,3 +23,8 @@ refusal_number (Err refusal) = number_of_refusal refusal
 -- whether something is accepted or refused, where nothing else is answered
 abbrev pub Verdict : Type 0
 Verdict = Result (Unit {0}) Refusal
+
+-- what is made of an accepted value; a refusal stays
+abbrev pub result_map : {T U : Type 0} → (T → U) → Result T Refusal → Result U Refusal
+result_map f (Ok x) = Ok (f x)
+result_map f (Err refusal) = Err refusal
