@@ -7,6 +7,7 @@ ghost use Rattle.modes.specs.Events.{event_at, line_of};
 
 use modes::sets::{engages_alt, engages_flc, engages_hdg, engages_vs, selects_lappr, selects_nav};
 use modes::{Event, ModeSet};
+use sides::Side;
 
 // The event of a number, and none above 20.
 pub fn event_at(number: u32) -> Event
@@ -68,12 +69,12 @@ pub fn transfers(e: Event) -> bool
 }
 
 // Whether the FD switch of a side is pressed.
-pub fn fd_pressed(e: Event, side: u32) -> bool
+pub fn fd_pressed(e: Event, side: Side) -> bool
     ensures { result ≡ (line_of e).pressed side }
 {
     match e {
-        Event::FdSwitchLeft => side == 0,
-        Event::FdSwitchRight => side == 1,
+        Event::FdSwitchLeft => matches!(side, Side::Left),
+        Event::FdSwitchRight => matches!(side, Side::Right),
         _ => false,
     }
 }

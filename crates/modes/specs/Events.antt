@@ -1,5 +1,6 @@
 -- The events, a line for each. Document 01, 'Event words'; document 02, 2026-03, has event 20.
 use Rattle.std.specs.Prelude.{Bool, true, false, not, ◌&&◌, ◌||◌, cond, List, [], ◌∷◌, ℕ, eqb}
+use Rattle.sides.specs.declared.Side.{Side}
 use Rattle.modes.specs.declared.Vertical.{Vertical}
 use Rattle.modes.specs.declared.Modes.{Modes}
 use Rattle.modes.specs.declared.ModeSet.{ModeSet}
@@ -77,14 +78,16 @@ abbrev remains : Bool
 remains = false
 
 -- whose FD switch is pressed
-abbrev nobody : ℕ → Bool
+abbrev nobody : Side → Bool
 nobody s = false
 
-abbrev left : ℕ → Bool
-left s = eqb s 0
+abbrev left : Side → Bool
+left Side.Left = true
+left Side.Right = false
 
-abbrev right : ℕ → Bool
-right s = eqb s 1
+abbrev right : Side → Bool
+right Side.Left = false
+right Side.Right = true
 
 -- when a side that acts asks for FD On: by AP, the flag and that side's set as handed in
 abbrev never : Bool → Bool → ModeSet → Bool
@@ -160,11 +163,11 @@ pub record Line : Type 0 where
   pub ap : Bool → Bool
   pub flag : Bool → Bool
   pub transfers : Bool
-  pub pressed : ℕ → Bool
+  pub pressed : Side → Bool
   pub asks_fd : Bool → Bool → ModeSet → Bool
   pub change : Bool → Modes → Modes
 
-abbrev line : (Bool → Bool) → (Bool → Bool) → Bool → (ℕ → Bool) → (Bool → Bool → ModeSet → Bool) → (Bool → Modes → Modes) → Line
+abbrev line : (Bool → Bool) → (Bool → Bool) → Bool → (Side → Bool) → (Bool → Bool → ModeSet → Bool) → (Bool → Modes → Modes) → Line
 line a f t d q c = record { ap = a; flag = f; transfers = t; pressed = d; asks_fd = q; change = c }
 
 -- a line for each event that goes through the three steps, and an idle one for the two that do not; the columns are AP, the flag, PF, whose FD switch is pressed, when

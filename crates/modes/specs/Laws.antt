@@ -1,5 +1,6 @@
 -- Laws of mode sets and of events.
 use Rattle.std.specs.Prelude.{◌≡◌, Bool, false, ℕ, ◌<◌, Option, Some, T}
+use Rattle.sides.specs.declared.Side.{Side}
 use Rattle.modes.specs.declared.Lateral.{Lateral}
 use Rattle.modes.specs.declared.ArmedLateral.{ArmedLateral}
 use Rattle.modes.specs.declared.Vertical.{Vertical}
@@ -16,7 +17,7 @@ pub record Idle (l : Line) : Type 0 where
   pub ap : (x : Bool) → l.ap x ≡ x
   pub flag : (x : Bool) → l.flag x ≡ x
   pub transfers : l.transfers ≡ false
-  pub pressed : (s : ℕ) → l.pressed s ≡ false
+  pub pressed : (s : Side) → l.pressed s ≡ false
   pub asks_fd : (x y : Bool) (s : ModeSet) → l.asks_fd x y s ≡ false
   pub change : (flag : Bool) (m : Modes) → l.change flag m ≡ m
 
