@@ -1,0 +1,5 @@
+pub mod Same
+pub mod Parts
+pub mod Put
+pub mod WholeLaws
+pub mod Kept
