@@ -70,32 +70,32 @@ exchange g n v out (pos k) z = go (eqb k n) refl
     go false e = plain (within g z) (same (pos k) z) (same v z)
 
 -- by what rounding answers; f is whether it is the number that is read otherwise
-by_answer : (k : Kind) (g : Range) (z : ℤ) (f : Result ℤ NoWhole → Bool) → ((n : NoWhole) → f (Err n) ≡ false)
-    → ((y : ℤ) → (within g z && same (wrapped k y) z) ≡ (within g z && (same y z || f (Ok y))))
-    → (w : Result ℤ NoWhole) → (within g z && (is_whole z w || f w)) ≡ (is_ok (judged g (as_kind k w)) && same (number_of (as_kind k w)) z)
-by_answer k g z f never h (Err n) = ap (λ (t : Bool). within g z && t) (never n) ∙ none (within g z)
-by_answer k g z f never h (Ok y) = sym (h y) ∙ sym (judged_kept g (wrapped k y) z)
+by_answer : (k : Kind) (z : ℤ) (f : Result ℤ NoWhole → Bool) → ((n : NoWhole) → f (Err n) ≡ false)
+    → ((y : ℤ) → (within (range_of k) z && same (wrapped k y) z) ≡ (within (range_of k) z && (same y z || f (Ok y))))
+    → (w : Result ℤ NoWhole) → (within (range_of k) z && (is_whole z w || f w)) ≡ (is_ok (judged (range_of k) (as_kind k w)) && same (number_of (as_kind k w)) z)
+by_answer k z f never h (Err n) = ap (λ (t : Bool). within (range_of k) z && t) (never n) ∙ none (within (range_of k) z)
+by_answer k z f never h (Ok y) = sym (h y) ∙ sym (judged_kept (range_of k) (wrapped k y) z)
 
 -- of a kind that reads every number as itself
-itself : (k : Kind) (g : Range) (z : ℤ) → ((y : ℤ) → wrapped k y ≡ y) → (w : Result ℤ NoWhole)
-    → (within g z && (is_whole z w || false)) ≡ (is_ok (judged g (as_kind k w)) && same (number_of (as_kind k w)) z)
-itself k g z same_number =
-    by_answer k g z (λ w. false) (λ n. refl) (λ y. ap (λ (n : ℤ). within g z && same n z) (same_number y) ∙ plain (within g z) (same y z) false)
+itself : (k : Kind) (z : ℤ) → ((y : ℤ) → wrapped k y ≡ y) → (w : Result ℤ NoWhole)
+    → (within (range_of k) z && (is_whole z w || false)) ≡ (is_ok (judged (range_of k) (as_kind k w)) && same (number_of (as_kind k w)) z)
+itself k z same_number =
+    by_answer k z (λ w. false) (λ n. refl) (λ y. ap (λ (n : ℤ). within (range_of k) z && same n z) (same_number y) ∙ plain (within (range_of k) z) (same y z) false)
 
 -- of a kind that reads n, which lies outside its range, as v
-otherwise : (k : Kind) (g : Range) (z : ℤ) (n : ℕ) (v : ℤ) → within g (pos n) ≡ false → ((y : ℤ) → wrapped k y ≡ exchanged n v y) → (w : Result ℤ NoWhole)
-    → (within g z && (is_whole z w || (same v z && is_whole (pos n) w))) ≡ (is_ok (judged g (as_kind k w)) && same (number_of (as_kind k w)) z)
-otherwise k g z n v out is =
-    by_answer k g z (λ w. same v z && is_whole (pos n) w) (λ e. none (same v z)) (λ y. ap (λ (n : ℤ). within g z && same n z) (is y) ∙ exchange g n v out y z)
+otherwise : (k : Kind) (z : ℤ) (n : ℕ) (v : ℤ) → within (range_of k) (pos n) ≡ false → ((y : ℤ) → wrapped k y ≡ exchanged n v y) → (w : Result ℤ NoWhole)
+    → (within (range_of k) z && (is_whole z w || (same v z && is_whole (pos n) w))) ≡ (is_ok (judged (range_of k) (as_kind k w)) && same (number_of (as_kind k w)) z)
+otherwise k z n v out is =
+    by_answer k z (λ w. same v z && is_whole (pos n) w) (λ e. none (same v z)) (λ y. ap (λ (n : ℤ). within (range_of k) z && same n z) (is y) ∙ exchange (range_of k) n v out y z)
 
 pub kept_is : (r : Reading) (z : ℤ) → (within (range_of (kind_of r)) z && reads_as r z) ≡ kept r z
 unfolding reading_verdict whole_number whole_reading
-kept_is (Reading.Altitude x) z = itself Kind.Altitude (range_of Kind.Altitude) z (λ y. refl) (whole_of x)
-kept_is (Reading.Airspeed x) z = itself Kind.Airspeed (range_of Kind.Airspeed) z (λ y. refl) (whole_of x)
-kept_is (Reading.VerticalSpeed x) z = itself Kind.VerticalSpeed (range_of Kind.VerticalSpeed) z (λ y. refl) (whole_of x)
-kept_is (Reading.Roll x) z = otherwise Kind.Roll (range_of Kind.Roll) z 180 (negsuc 179) refl (λ y. refl) (whole_of x)
-kept_is (Reading.Pitch x) z = itself Kind.Pitch (range_of Kind.Pitch) z (λ y. refl) (whole_of x)
-kept_is (Reading.Heading x) z = otherwise Kind.Heading (range_of Kind.Heading) z 360 (pos 0) refl (λ y. refl) (whole_of x)
+kept_is (Reading.Altitude x) z = itself Kind.Altitude z (λ y. refl) (whole_of x)
+kept_is (Reading.Airspeed x) z = itself Kind.Airspeed z (λ y. refl) (whole_of x)
+kept_is (Reading.VerticalSpeed x) z = itself Kind.VerticalSpeed z (λ y. refl) (whole_of x)
+kept_is (Reading.Roll x) z = otherwise Kind.Roll z 180 (negsuc 179) refl (λ y. refl) (whole_of x)
+kept_is (Reading.Pitch x) z = itself Kind.Pitch z (λ y. refl) (whole_of x)
+kept_is (Reading.Heading x) z = otherwise Kind.Heading z 360 (pos 0) refl (λ y. refl) (whole_of x)
 
 -- the same by what the test of the range tells
 by_range : (r : Reading) (z : ℤ) (t : Bool) → within (range_of (kind_of r)) z ≡ t → (t && reads_as r z) ≡ kept r z
