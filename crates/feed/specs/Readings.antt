@@ -18,6 +18,15 @@ kind_of (Reading.Roll x) = Kind.Roll
 kind_of (Reading.Pitch x) = Kind.Pitch
 kind_of (Reading.Heading x) = Kind.Heading
 
+-- the reading of a kind that has this value
+abbrev pub of_kind : Kind → Float → Reading
+of_kind Kind.Altitude x = Reading.Altitude x
+of_kind Kind.Airspeed x = Reading.Airspeed x
+of_kind Kind.VerticalSpeed x = Reading.VerticalSpeed x
+of_kind Kind.Roll x = Reading.Roll x
+of_kind Kind.Pitch x = Reading.Pitch x
+of_kind Kind.Heading x = Reading.Heading x
+
 abbrev pub float_of : Reading → Float
 float_of (Reading.Altitude x) = x
 float_of (Reading.Airspeed x) = x

@@ -6,7 +6,7 @@ pub mod ranges;
 
 ghost use Rattle.std.specs.Prelude.{◌≡◌};
 ghost use Rattle.feed.specs.Ranges.{range_of};
-ghost use Rattle.feed.specs.Readings.{kind_of, float_of, wrapped, whole_reading, feed_refusal, judged, reading_verdict, with_whole, stored};
+ghost use Rattle.feed.specs.Readings.{kind_of, of_kind, float_of, wrapped, whole_reading, feed_refusal, judged, reading_verdict, with_whole, stored};
 ghost use Rattle.feed.specs.Sound.{kept, readings_sound};
 ghost use Rattle.feed.specs.Private.{is_wrapped, reads_as};
 
@@ -47,6 +47,20 @@ impl Kind {
             },
             Kind::Pitch => Range { low: -90, high: 89 },
             Kind::Heading => Range { low: 0, high: 359 },
+        }
+    }
+
+    // The reading of this kind that has a value.
+    pub fn reading(self, x: f64) -> Reading
+        ensures { result ≡ of_kind self x }
+    {
+        match self {
+            Kind::Altitude => Reading::Altitude(x),
+            Kind::Airspeed => Reading::Airspeed(x),
+            Kind::VerticalSpeed => Reading::VerticalSpeed(x),
+            Kind::Roll => Reading::Roll(x),
+            Kind::Pitch => Reading::Pitch(x),
+            Kind::Heading => Reading::Heading(x),
         }
     }
 
