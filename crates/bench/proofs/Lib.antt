@@ -1,7 +1,4 @@
-pub mod Same
-pub mod Replaced
 pub mod SoundParts
 pub mod Independent
-pub mod WholeLaws
+pub mod Laws
 pub mod StartLaws
-pub mod Kept

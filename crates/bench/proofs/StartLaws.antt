@@ -13,22 +13,24 @@ use lib.Ieee.Exact.{HasValue}
 use lib.Ieee.Back.{round_whole}
 use Rattle.std.specs.Prelude.{Ok, Err}
 use Rattle.refusals.specs.declared.Refusal.{Refusal}
+use Rattle.refusals.proofs.Choices.{and_left, and_right, and_both, by_cond}
 use Rattle.refusals.specs.Refusals.{refusal_number}
 use Rattle.rounding.specs.declared.NoWhole.{NoWhole}
 use Rattle.rounding.specs.Whole.{in_answer, whole_of}
 use Rattle.rounding.proofs.Laws.{whole_exact}
-use Rattle.bench.specs.declared.Reading.{Reading}
+use Rattle.feed.specs.declared.Kind.{Kind}
+use Rattle.feed.specs.declared.Reading.{Reading}
+use Rattle.feed.specs.Ranges.{within}
+use Rattle.feed.specs.Readings.{as_kind, whole_reading, reading_verdict, whole_number}
+use Rattle.feed.specs.Sound.{kept, readings_sound}
+use Rattle.feed.proofs.WholeLaws.{may_keep}
+use Rattle.channels.specs.Sound.{references_sound, channel_sound}
 use Rattle.bench.specs.declared.Bench.{Bench}
-use Rattle.bench.specs.declared.Started.{Started}
-use Rattle.bench.specs.Parts.{with_reference}
-use Rattle.bench.specs.Ranges.{within, reference_range}
-use Rattle.bench.specs.Readings.{of_kind, whole_reading, reading_verdict, whole_number}
+use Rattle.bench.specs.declared.starts.Started.{Started}
 use Rattle.bench.specs.Independent.{independent_sound}
-use Rattle.bench.specs.Sound.{kept, references_sound, channel_sound, readings_sound, sound}
+use Rattle.bench.specs.Sound.{sound}
 use Rattle.bench.specs.Holds.{start_channel, start_readings, start_wholes, bench_at, power_on, start_speeds, started}
 use Rattle.bench.specs.Starts.{Accepted, StartLaws}
-use Rattle.bench.proofs.SoundParts.{and_left, and_right, and_both, by_cond}
-use Rattle.bench.proofs.WholeLaws.{may_keep}
 
 -- ---- the airspeed of a start
 
@@ -49,7 +51,7 @@ airspeed_kept n h =
     let in-answer : leb n 2147483647 ≡ true = le-leb n 2147483647 (omega arith) in
     let in_range = and_both (leb 0 n) (leb n 600) (le-leb 0 n (omega arith)) (le-leb n 600 (omega arith)) in
     may_keep r (pos n)
-    (ap (of_kind r) (whole_of_lem (of_int binary64 (pos n)) n (exact n h) ∙ ap (λ (t : Bool). cond t (Ok (pos n)) (Err NoWhole.Beyond)) in-answer), in_range)
+    (ap (as_kind Kind.Airspeed) (whole_of_lem (of_int binary64 (pos n)) n (exact n h) ∙ ap (λ (t : Bool). cond t (Ok (pos n)) (Err NoWhole.Beyond)) in-answer), in_range)
 
 -- ---- the bench at an accepted speed
 
@@ -60,7 +62,7 @@ most : (n : ℕ) → within start_speeds (pos n) ≡ true → n ≤ 400
 most n h = leb-true n 400 (and_right (leb 60 n) (leb n 400) h)
 
 channel_sound_lem : (n : ℕ) → within start_speeds (pos n) ≡ true → channel_sound (start_channel (pos n)) ≡ true
-unfolding start_channel with_reference reference_range channel_sound references_sound
+unfolding start_channel channel_sound references_sound
 channel_sound_lem n h = ap (λ (t : Bool). t && true && true) h
 
 readings_sound_lem : (n : ℕ) → n ≤ 400 → readings_sound (start_readings (pos n)) (start_wholes (pos n)) ≡ true
@@ -72,7 +74,7 @@ unfolding sound independent_sound bench_at
 at_sound n h =
     let channel = channel_sound_lem n h in
     let readings = readings_sound_lem n (most n h) in
-    λ i. channel i && channel i && channel i && channel i && readings i && true
+    λ i. (channel i && channel i) && (channel i && channel i) && readings i && true
 
 -- ---- starts
 

@@ -4,20 +4,20 @@ use Rattle.std.specs.Float.Ieee.{of_bits, of_int}
 use Rattle.std.specs.Float.{binary64}
 use Rattle.refusals.specs.declared.Refusal.{Refusal}
 use Rattle.modes.specs.declared.ModeSet.{ModeSet}
-use Rattle.bench.specs.declared.Channel.{Channel}
-use Rattle.bench.specs.declared.Readings.{Readings}
-use Rattle.bench.specs.declared.Wholes.{Wholes}
+use Rattle.feed.specs.declared.Readings.{Readings}
+use Rattle.feed.specs.declared.Wholes.{Wholes}
+use Rattle.feed.specs.declared.ranges.Range.{Range}
+use Rattle.feed.specs.Ranges.{range, within}
+use Rattle.channels.specs.declared.Channel.{Channel}
+use Rattle.channels.specs.References.{zero_references}
 use Rattle.bench.specs.declared.Bench.{Bench}
-use Rattle.bench.specs.declared.Started.{Started}
-use Rattle.bench.specs.declared.ranges.Range.{Range}
-use Rattle.bench.specs.Parts.{at_ias, with_reference, zero_references}
-use Rattle.bench.specs.Ranges.{range, within}
+use Rattle.bench.specs.declared.starts.Started.{Started}
 
 -- ---- the bench at a starting speed
 
 -- flight director and modes Off, the speed as IAS reference and the other references 0
 unfoldable pub start_channel : ℤ → Channel
-start_channel speed = record { fd = false; set = ModeSet.Off; references = with_reference at_ias speed zero_references }
+start_channel speed = record { fd = false; set = ModeSet.Off; references = record zero_references { ias = speed } }
 
 -- the speed as airspeed, a float that is exactly this number (`exact` of StartLaws), the other readings 0.0
 abbrev pub start_readings : ℤ → Readings
@@ -41,10 +41,8 @@ bench_at speed = record {
   counts = record { wheel = 0; altitude = 0; speed = 0; heading = 0 };
   readings = start_readings speed;
   wholes = start_wholes speed;
-  left = start_channel speed;
-  right = start_channel speed;
-  left_inbox = start_channel speed;
-  right_inbox = start_channel speed;
+  sides = record { left = start_channel speed; right = start_channel speed };
+  inboxes = record { left = start_channel speed; right = start_channel speed };
 }
 
 -- the default bench, which power-on gives

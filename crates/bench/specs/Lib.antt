@@ -1,11 +1,7 @@
-pub mod Parts
-pub mod Sides
+pub mod Counts
+pub mod Acting
 pub mod Holds
-pub mod Ranges
-pub mod Readings
 pub mod Independent
 pub mod Sound
-pub mod Laws
-pub mod Wholes
 pub mod Starts
-pub mod Private
+pub mod Laws

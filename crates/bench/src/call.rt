@@ -1,5 +1,5 @@
 // A call as data: which entry is called, and what it is given besides the bench.
-use crate::Reading;
+use feed::Reading;
 
 #[derive(Clone, Copy)]
 pub enum Call {

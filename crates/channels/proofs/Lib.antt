@@ -1,0 +1,5 @@
+pub mod Read
+pub mod ByLaw
+pub mod Clicks
+pub mod Sound
+pub mod Rounded

@@ -1,2 +1,0 @@
-pub mod ByLaw
-pub mod Clicks

@@ -1,3 +1,0 @@
-pub mod ByLaw
-pub mod ByEvent
-pub mod Rounded

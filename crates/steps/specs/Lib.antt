@@ -1,4 +1,0 @@
-pub mod Entry
-pub mod Laws
-pub mod Steps
-pub mod Private
