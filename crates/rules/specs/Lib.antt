@@ -1,0 +1,5 @@
+pub mod Steps
+pub mod Turns
+pub mod Sends
+pub mod Readings
+pub mod Private

@@ -1,0 +1,42 @@
+// Turns of a knob.
+ghost use Rattle.std.specs.Prelude.{◌≡◌};
+ghost use Rattle.channels.specs.Turns.{after_turn};
+ghost use Rattle.rules.specs.Turns.{turned};
+
+use crate::{Rule, make_on_acting};
+use bench::Bench;
+use channels::knobs::{Knob, Rotation};
+use channels::{Channel, Inputs};
+
+#[derive(Clone, Copy)]
+struct Turn {
+    knob: Knob,
+    rotation: Rotation,
+}
+
+impl Rule for Turn {
+    ghost rule = { λ t. after_turn t.knob t.rotation.clicks };
+
+    #[inline(always)]
+    fn make(self, channel: &mut Channel, inputs: &Inputs) {
+        channel.turn(self.knob, self.rotation, inputs);
+    }
+}
+
+// A knob's new count. The same count again does nothing.
+#[tactic(auto, unfolding(crate::specs::Turns::turned))]
+pub fn turn_to(b: &mut Bench, knob: Knob, new: u8)
+    ensures { b.new ≡ turned knob new b.old }
+{
+    let old = b.counts.get(knob);
+    b.counts.put(knob, new);
+    if new == old {
+        return;
+    }
+    let turn = Turn {
+        knob,
+        rotation: Rotation::between(old, new),
+    };
+    let overspeed = b.shared.overspeed;
+    make_on_acting(turn, overspeed, b);
+}
