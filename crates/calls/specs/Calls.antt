@@ -1,91 +1,100 @@
 -- The calls as data: which are turned away, in what order, what the others do, and what each answers. Document 01, 'Event words', 'Sends, refreshes, knobs', 'Readings',
 -- 'Display' and 'Who can be turned away'; document 02, 2026-03, for bit 20 and for what ends independent operation, and 2026-05 for whole values.
-use Rattle.std.specs.Prelude.{cond, ℕ, leb, Result, Ok, Err, is_ok}
+use Rattle.std.specs.Prelude.{cond, ℕ, leb, ℤ, Result, Ok, Err}
 use Rattle.std.specs.Result.{result_and}
 use Rattle.std.specs.Int.Count.{count_trailing_zeros}
 use Rattle.refusals.specs.declared.Refusal.{Refusal}
-use Rattle.refusals.specs.Refusals.{Verdict}
+use Rattle.refusals.specs.Refusals.{Verdict, result_map}
+use Rattle.sides.specs.declared.Side.{Side}
+use Rattle.sides.specs.Sides.{side_of}
 use Rattle.modes.specs.Events.{event_at}
-use Rattle.bench.specs.declared.Reading.{Reading}
+use Rattle.feed.specs.declared.Reading.{Reading}
+use Rattle.feed.specs.Readings.{reading_verdict}
+use Rattle.channels.specs.declared.knobs.Knob.{Knob}
+use Rattle.channels.specs.Turns.{knob_of}
 use Rattle.bench.specs.declared.Bench.{Bench}
 use Rattle.bench.specs.declared.call.Call.{Call}
-use Rattle.bench.specs.Parts.{with_readings, with_wholes}
-use Rattle.bench.specs.Readings.{reading_verdict, stored, stored_whole}
 use Rattle.bench.specs.Independent.{ended}
 use Rattle.bench.specs.Sound.{sound}
-use Rattle.steps.specs.Steps.{acted}
-use Rattle.knobs.specs.Knobs.{turned}
+use Rattle.rules.specs.Steps.{acted}
+use Rattle.rules.specs.Turns.{turned}
+use Rattle.rules.specs.Readings.{received}
+use Rattle.rules.specs.Sends.{sent, refreshed}
 use Rattle.calls.specs.declared.reply.Display.{Display}
 use Rattle.calls.specs.declared.reply.Reply.{Reply}
-use Rattle.calls.specs.Sends.{sent, refreshed}
 use Rattle.calls.specs.Displays.{shown}
 
 -- ---- who is turned away
 
--- 2 where the number names no side
-abbrev pub side_verdict : ℕ → Verdict
-side_verdict s = cond (leb s 1) (Ok tt) (Err Refusal.UnknownSide)
+-- what a call is for, once its numbers are known to name something: an event by its number, or 32 for none; a knob and its new count; a reading and its whole value;
+-- and for a side, its send, its refresh and its display
+pub data Deed : Type 0 where
+  act : ℕ → Deed
+  turn : Knob → ℕ → Deed
+  keep : Reading → ℤ → Deed
+  send : Side → Deed
+  refresh : Side → Deed
+  show : Side → Deed
 
--- 3 where the number names no knob
-abbrev pub knob_verdict : ℕ → Verdict
-knob_verdict knob = cond (leb knob 3) (Ok tt) (Err Refusal.UnknownKnob)
+-- a word's lowest set bit is its event. 4 where a bit past those of the events is set, so that the word is 2 ^ 21 = 2097152 or more
+abbrev pub word_event : ℕ → Result ℕ Refusal
+word_event word = cond (leb 2097152 word) (Err Refusal.UnknownEvent) (Ok (count_trailing_zeros 32 word))
 
--- 4 where a bit past those of the events is set, so that the word is 2 ^ 21 = 2097152 or more
-abbrev pub word_verdict : ℕ → Verdict
-word_verdict word = cond (leb 2097152 word) (Err Refusal.UnknownEvent) (Ok tt)
-
--- what a call's own arguments come to: it is accepted, or refused with 2 to 6
-abbrev pub own_verdict : Call → Verdict
-own_verdict (Call.Event word) = word_verdict word
-own_verdict (Call.Turn knob n) = knob_verdict knob
-own_verdict (Call.Reading r) = result_and (reading_verdict r) (Ok tt)
-own_verdict (Call.Send s) = side_verdict s
-own_verdict (Call.Refresh s) = side_verdict s
-own_verdict (Call.Display s) = side_verdict s
+-- what a call asks for, or the refusal of its own arguments, 2 to 6: 2 where a number names no side, 3 where it names no knob
+abbrev pub asked : Call → Result Deed Refusal
+asked (Call.Event word) = result_map act (word_event word)
+asked (Call.Turn knob n) = result_map (λ k. turn k n) (knob_of knob)
+asked (Call.Reading r) = result_map (keep r) (reading_verdict r)
+asked (Call.Send s) = result_map send (side_of s)
+asked (Call.Refresh s) = result_map refresh (side_of s)
+asked (Call.Display s) = result_map show (side_of s)
 
 -- 1, of an unsound bench, goes before a call's own refusal
-unfoldable pub verdict : Bench → Call → Verdict
-verdict b c = cond (sound b) (own_verdict c) (Err Refusal.UnsoundBench)
+unfoldable pub granted : Bench → Call → Result Deed Refusal
+granted b c = cond (sound b) (asked c) (Err Refusal.UnsoundBench)
 
--- ---- what an accepted call does
+-- whether the call is accepted, or its refusal
+abbrev pub verdict : Bench → Call → Verdict
+verdict b c = result_and (granted b c) (Ok tt)
 
--- an accepted reading takes the place of the last one of its kind, and its whole value that of the last one's
-unfoldable pub received : Reading → Bench → Bench
-received r b = with_wholes (stored_whole r b.wholes) (with_readings (stored r b.readings) b)
+-- ---- what an accepted call does; a display changes nothing
 
--- a word stands for the event of its lowest set bit, and 0 for none; a display changes nothing
-abbrev pub done : Call → Bench → Bench
-done (Call.Event word) b = acted (event_at (count_trailing_zeros 32 word)) b
-done (Call.Turn knob n) b = turned knob n b
-done (Call.Reading r) b = received r b
-done (Call.Send s) b = sent s b
-done (Call.Refresh s) b = refreshed s b
-done (Call.Display s) b = b
+abbrev pub done : Deed → Bench → Bench
+done (act n) b = acted (event_at n) b
+done (turn k n) b = turned k n b
+done (keep r z) b = received r z b
+done (send s) b = sent s b
+done (refresh s) b = refreshed s b
+done (show s) b = b
 
 -- the bench after a call: an accepted one leaves what it does, with independent operation off where a side is then without the two modes; a refused one what came
+abbrev pub left_by : Bench → Result Deed Refusal → Bench
+left_by b (Ok d) = ended (done d b)
+left_by b (Err refusal) = b
+
 unfoldable pub next : Bench → Call → Bench
-next b c = cond (is_ok (verdict b c)) (ended (done c b)) b
+next b c = left_by b (granted b c)
 
 -- ---- what a call answers: its refusal, or else
 
+-- the number of the event acted on, what the side shows, or that it is done
+abbrev pub replied : Bench → Deed → Reply
+replied b (act n) = Reply.Event n
+replied b (turn k n) = Reply.Done
+replied b (keep r z) = Reply.Done
+replied b (send s) = Reply.Done
+replied b (refresh s) = Reply.Done
+replied b (show s) = Reply.Shown (shown b s)
+
+abbrev pub reply : Bench → Call → Result Reply Refusal
+reply b c = result_map (replied b) (granted b c)
+
+-- ---- the same of the two calls that answer something, by themselves
+
 -- an event: the number acted on, or 32 for none
 abbrev pub event_answer : Bench → ℕ → Result ℕ Refusal
-event_answer b word = result_and (verdict b (Call.Event word)) (Ok (count_trailing_zeros 32 word))
+event_answer b word = cond (sound b) (word_event word) (Err Refusal.UnsoundBench)
 
 -- a display: what the side shows
 abbrev pub display_answer : Bench → ℕ → Result Display Refusal
-display_answer b s = result_and (verdict b (Call.Display s)) (Ok (shown b s))
-
--- ---- the same of a call that is data
-
--- what an accepted call answers
-abbrev pub replied : Bench → Call → Reply
-replied b (Call.Event word) = Reply.Event (count_trailing_zeros 32 word)
-replied b (Call.Turn knob n) = Reply.Done
-replied b (Call.Reading r) = Reply.Done
-replied b (Call.Send s) = Reply.Done
-replied b (Call.Refresh s) = Reply.Done
-replied b (Call.Display s) = Reply.Shown (shown b s)
-
-abbrev pub reply : Bench → Call → Result Reply Refusal
-reply b c = result_and (verdict b c) (Ok (replied b c))
+display_answer b s = cond (sound b) (result_map (shown b) (side_of s)) (Err Refusal.UnsoundBench)

@@ -1,9 +1,10 @@
 -- What a side shows. Document 01, 'Display'.
 use Rattle.std.specs.Prelude.{false, cond, ℕ, ◌+◌, eqb}
 use Rattle.modes.specs.Numbers.{lateral_law, vertical_law, armed_sum, mode_lamps, worth}
+use Rattle.sides.specs.declared.Side.{Side}
+use Rattle.sides.specs.Sides.{at}
+use Rattle.channels.specs.References.{zero_references}
 use Rattle.bench.specs.declared.Bench.{Bench}
-use Rattle.bench.specs.Parts.{zero_references}
-use Rattle.bench.specs.Sides.{side}
 use Rattle.calls.specs.declared.reply.Display.{Display}
 
 -- the lamp of PF: 128 while left has it, 256 while right has it
@@ -11,16 +12,16 @@ abbrev pub pf_lamp : ℕ → ℕ
 pf_lamp pf = cond (eqb pf 0) 128 256
 
 -- the mode lamps of a side, then AP 64 and the lamp of PF
-unfoldable pub lamps : Bench → ℕ → ℕ
-lamps b s = mode_lamps (side b s).set + worth b.shared.ap 64 + pf_lamp b.shared.pf
+unfoldable pub lamps : Bench → Side → ℕ
+lamps b s = mode_lamps (at s b.sides).set + worth b.shared.ap 64 + pf_lamp b.shared.pf
 
-unfoldable pub shown : Bench → ℕ → Display
+unfoldable pub shown : Bench → Side → Display
 shown b s = record {
-  fd = (side b s).fd;
-  lateral = lateral_law (side b s).set;
-  vertical = vertical_law (side b s).set;
-  armed = armed_sum (side b s).set;
-  references = (side b s).references;
+  fd = (at s b.sides).fd;
+  lateral = lateral_law (at s b.sides).set;
+  vertical = vertical_law (at s b.sides).set;
+  armed = armed_sum (at s b.sides).set;
+  references = (at s b.sides).references;
   lamps = lamps b s;
 }
 

@@ -1,4 +1,3 @@
-pub mod Sends
 pub mod Displays
 pub mod Calls
 pub mod Answers

@@ -3,9 +3,8 @@ ghost use Rattle.std.specs.Prelude.{◌≡◌};
 ghost use Rattle.calls.specs.Answers.{beside_refusal};
 ghost use Rattle.calls.specs.Displays.{blank};
 
-use bench::References;
 use bench::call::Call;
-use bench::parts::zero_references;
+use channels::references::References;
 
 // What a side shows: its flight director, the numbers of its two laws, the sum of its armed modes, its references and
 // the sum of its lamps.
@@ -39,7 +38,7 @@ pub fn blank() -> Display
         lateral: 0,
         vertical: 0,
         armed: 0,
-        references: zero_references(),
+        references: References::zero(),
         lamps: 0,
     }
 }

@@ -4,7 +4,7 @@ ghost use Rattle.calls.specs.Displays.{pf_lamp, lamps, shown};
 
 use crate::reply::Display;
 use bench::Bench;
-use bench::parts::box_of;
+use sides::Side;
 
 fn pf_lamp(pf: u32) -> u32
     ensures { result ≡ pf_lamp pf }
@@ -17,18 +17,18 @@ fn pf_lamp(pf: u32) -> u32
 
 // The mode lamps of a side, 64 for AP, and 128 or 256 for the side that has PF.
 #[tactic(auto, unfolding(crate::specs::Displays::lamps))]
-fn lamps_of(b: &Bench, side: u32) -> u32
+fn lamps_of(b: &Bench, side: Side) -> u32
     ensures { result ≡ lamps b.now side }
 {
-    let modes_lit = modes::numbers::mode_lamps(box_of(b, side).set);
+    let modes_lit = modes::numbers::mode_lamps(b.sides.get(side).set);
     modes_lit + modes::numbers::worth(b.shared.ap, 64) + pf_lamp(b.shared.pf)
 }
 
 #[tactic(auto, unfolding(crate::specs::Displays::shown))]
-pub(crate) fn show(b: &Bench, side: u32) -> Display
+pub(crate) fn show(b: &Bench, side: Side) -> Display
     ensures { result ≡ shown b.now side }
 {
-    let c = box_of(b, side);
+    let c = b.sides.get(side);
     Display {
         fd: c.fd,
         lateral: modes::numbers::lateral_law(c.set),

@@ -18,13 +18,13 @@ pf_small : {n : ℕ} (pf : ℕ) → n ≡ pf_lamp pf → n ≤ 256
 pf_small pf e = rw e (pf_lamp_le pf)
 
 pub overflow_add-result : goal.overflow_add-result
-overflow_add-result c = omega (arith, modes_small c.box_of.result.set c.mode_lamps-modes_lit.ensures, ap_small c.args.b.now.shared.ap c.worth.ensures)
+overflow_add-result c = omega (arith, modes_small c.get.result.set c.mode_lamps-modes_lit.ensures, ap_small c.args.b.now.shared.ap c.worth.ensures)
 
 pub overflow_add-result-2 : goal.overflow_add-result-2
 overflow_add-result-2 c =
     omega (
       arith,
-      modes_small c.box_of.result.set c.mode_lamps-modes_lit.ensures,
+      modes_small c.get.result.set c.mode_lamps-modes_lit.ensures,
       ap_small c.args.b.now.shared.ap c.worth.ensures,
       pf_small c.args.b.now.shared.pf c.pf_lamp.ensures,
     )
