@@ -3,3 +3,4 @@ pub mod Parts
 pub mod Put
 pub mod WholeLaws
 pub mod Kept
+pub mod Stored
