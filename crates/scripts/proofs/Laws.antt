@@ -3,21 +3,24 @@ use Rattle.std.proofs.Common.{◌≡◌, ℕ, ◌+◌, ◌^◌, Bool, true, fals
 use Prim.Native.String.{String}
 use Rattle.std.specs.Prelude.{Result}
 use Rattle.std.specs.Bool.{⊤}
-use Rattle.bench.specs.declared.Reading.{Reading}
+use Rattle.sides.specs.declared.Side.{Side}
+use Rattle.feed.specs.declared.Reading.{Reading}
+use Rattle.channels.specs.declared.references.Reference.{Reference}
 use Rattle.bench.specs.declared.call.Call.{Call}
 use Rattle.words.specs.Words.{word_of, same_bytes}
 use Rattle.numerals.specs.Numbers.{clicks_in}
 use Rattle.numerals.specs.Integers.{signed_in}
 use Rattle.numerals.specs.Pairs.{are_pairs}
 use Rattle.numerals.proofs.Numerals.{number_fits}
+use Rattle.scripts.specs.declared.Part.{Part}
 use Rattle.scripts.specs.declared.Command.{Command}
 use Rattle.scripts.specs.declared.Mistake.{Mistake}
 use Rattle.scripts.specs.declared.Mistake.TheVariants.{NoCommand, TooManyWords, NoWord, NoSide, NoKnobNumber, NoCount, NoKnob, NoClicks, NoSwitch, NoSignal, NoWatch, NoKind}
 use Rattle.scripts.specs.declared.Mistake.TheVariants.{NoDamage, NoPf, NoReference, NoSigned, NoSet, NoLength, NoStart, NoPairs, NoFlag, NoSpeed}
-use Rattle.scripts.specs.Commands.{Asked, bytes, beside, watches, kinds, kind_number, parts, damages, commands, absent, ends_at, if_some, if_reading}
-use Rattle.scripts.specs.Commands.{number_at, side_at, knob_at, reading_at, start_at, set_by, is_switch, is_signal, event_named}
+use Rattle.scripts.specs.Commands.{Asked, bytes, beside, watches, kinds, contents, damages, commands, absent, ends_at, if_some, if_reading}
+use Rattle.scripts.specs.Commands.{number_at, side_at, knob_at, one_knob, reading_at, start_at, set_by, is_switch, is_signal, event_named}
 use Rattle.scripts.specs.Commands.{with_number, with_side, turn_of, clicks_of, event_if, watch_of, start_of, poke_of, write_of, read_of}
-use Rattle.scripts.specs.Commands.{if_number, damage_set, damage_number, damage_box, damage_whole, damage_reading, reference, damage_of, command_by, command_in, text_of, command_of, pairs_of}
+use Rattle.scripts.specs.Commands.{if_number, damage_set, damage_number, damage_reference, damage_part, damage_whole, damage_reading, damage_of, command_by, command_in, text_of, command_of, pairs_of}
 use Rattle.scripts.specs.Laws.{LineLaws}
 
 -- an area of at most 2,048 bytes, and a poke with pairs in word 2
@@ -34,8 +37,8 @@ allows text Command.Help = true
 allows text (Command.Watch on) = true
 allows text (Command.DamagePf n) = true
 allows text (Command.DamageReading r) = true
-allows text (Command.DamageSet n set) = true
-allows text (Command.DamageReference n place x) = true
+allows text (Command.DamageSet part set) = true
+allows text (Command.DamageReference part name x) = true
 allows text (Command.DamageWhole kind x) = true
 allows text (Command.DamageIndependent on) = true
 allows text (Command.Area n) = leb n 2048
@@ -101,11 +104,11 @@ module _ (text : List ℕ) where
 
   turn : Meets text (turn_of text)
   unfolding turn_of
-  turn = given (knob_at text 4294967295) NoKnobNumber (λ knob e. given (number_at text 2 255) NoCount (λ n f. ends 3 (Command.Call (Call.Turn knob n)) refl))
+  turn = given (knob_at text) NoKnobNumber (λ knob e. given (number_at text 2 255) NoCount (λ n f. ends 3 (Command.Call (Call.Turn knob n)) refl))
 
   clicks : Meets text (clicks_of text)
   unfolding clicks_of
-  clicks = given (knob_at text 3) NoKnob (λ knob e. given (clicks_in (word_of text 2)) NoClicks (λ n f. ends 3 (Command.Knob knob n) refl))
+  clicks = given (one_knob (knob_at text)) NoKnob (λ knob e. given (clicks_in (word_of text 2)) NoClicks (λ n f. ends 3 (Command.Knob knob n) refl))
 
   event_taken : (takes : ℕ → Bool) (mistake : Mistake) → Meets text (event_if takes mistake text)
   unfolding event_if
@@ -126,36 +129,36 @@ module _ (text : List ℕ) where
   set_number : (n : ℕ) {ask : ℕ → Asked} → ((v : ℕ) → Meets text (ask v)) → Meets text (if_number text n ask)
   set_number n h = given (number_at text n 4294967295) NoSet (λ v e. h v)
 
-  of_set : (box : ℕ) → Meets text (damage_set box text)
+  of_set : (part : Part) → Meets text (damage_set part text)
   unfolding damage_set
-  of_set box =
+  of_set part =
       set_number 3 (λ lateral. set_number 4 (λ armed. set_number 5 (λ vertical. set_number 6 (λ vappr.
-      given (set_by lateral armed vertical vappr) NoSet (λ s e. ends 7 (Command.DamageSet box s) refl)))))
+      given (set_by lateral armed vertical vappr) NoSet (λ s e. ends 7 (Command.DamageSet part s) refl)))))
 
-  part : (box : ℕ) → Meets text (damage_box box text)
-  unfolding damage_box parts
-  part box =
-      table (λ damage. damage box text) parts NoReference (word_of text 2)
-      (at 0, (at 1, (at 2, (at 3, (at 4, (at 5, (at 6, (of_set box, tt))))))))
+  part : (p : Part) → Meets text (damage_part p text)
+  unfolding damage_part contents
+  part p =
+      table (λ damage. damage p text) contents NoReference (word_of text 2)
+      (at Reference.Heading, (at Reference.Preselected, (at Reference.Held, (at Reference.VerticalSpeed, (at Reference.Ias, (at Reference.Roll, (at Reference.Pitch, (of_set p, tt))))))))
     where
-      at : (place : ℕ) → Meets text (reference place box text)
-      at place = signed_number (λ z. Command.DamageReference box place z) (λ z. refl)
+      at : (name : Reference) → Meets text (damage_reference name p text)
+      at name = signed_number (λ z. Command.DamageReference p name z) (λ z. refl)
 
   whole : Meets text (damage_whole text)
   unfolding damage_whole
-  whole = given (beside kinds (word_of text 2)) NoKind (λ kind e. signed_number (λ z. Command.DamageWhole (kind_number kind) z) (λ z. refl))
+  whole = given (beside kinds (word_of text 2)) NoKind (λ kind e. signed_number (λ z. Command.DamageWhole kind z) (λ z. refl))
 
   damage : Meets text (damage_of text)
   unfolding damage_of damages damage_reading
   damage =
       table (λ damage. damage text) damages NoDamage (word_of text 1) (
-        part 0,
+        part (Part.Side Side.Left),
         (
-          part 1,
+          part (Part.Side Side.Right),
           (
-            part 2,
+            part (Part.Inbox Side.Left),
             (
-              part 3,
+              part (Part.Inbox Side.Right),
               (
                 whole,
                 (

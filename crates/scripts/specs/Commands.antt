@@ -1,6 +1,7 @@
 -- What a line of a script asks for, or what is wrong with it. The console's page, 'Script' and 'Words for people', which docs/MANUAL.md has as its section 5.
-use Rattle.std.specs.Prelude.{◌≡◌, ℕ, ◌+◌, ◌^◌, Bool, true, false, map, not, ◌&&◌, ◌||◌, cond, List, [], ◌∷◌, eqb, leb, Float, ℤ, length, Option, Some, None, Result, Ok, Err}
-use Rattle.std.specs.Option.{option_or}
+use Rattle.std.specs.Prelude.{◌≡◌, ℕ, ◌+◌, ◌^◌, Bool, true, false, map, not, ◌&&◌, ◌||◌, cond, List, [], ◌∷◌, eqb, leb, ℤ, length, Option, Some, None, Result, Ok, Err}
+use Rattle.std.specs.Option.{option_or, option_and_then}
+use Rattle.std.specs.Result.{result_ok}
 use Prim.Native.Char.{code}
 use Prim.Native.String.{String, [] as nil, ◌∷◌ as ◌then◌}
 use Rattle.modes.specs.declared.Lateral.{Lateral}
@@ -8,7 +9,13 @@ use Rattle.modes.specs.declared.ArmedLateral.{ArmedLateral}
 use Rattle.modes.specs.declared.Vertical.{Vertical}
 use Rattle.modes.specs.declared.ModeSet.{ModeSet}
 use Rattle.modes.specs.Numbers.{lateral_of, armed_of, vertical_of}
-use Rattle.bench.specs.declared.Reading.{Reading}
+use Rattle.sides.specs.declared.Side.{Side}
+use Rattle.feed.specs.declared.Kind.{Kind}
+use Rattle.feed.specs.declared.Reading.{Reading}
+use Rattle.feed.specs.Readings.{of_kind}
+use Rattle.channels.specs.declared.knobs.Knob.{Knob}
+use Rattle.channels.specs.declared.references.Reference.{Reference}
+use Rattle.channels.specs.Turns.{knob_of}
 use Rattle.bench.specs.declared.call.Call.{Call}
 use Rattle.words.specs.Words.{up_to, word_of, same_bytes, lookup_of}
 use Rattle.numerals.specs.Numbers.{number_in, clicks_in}
@@ -16,7 +23,7 @@ use Rattle.numerals.specs.Pairs.{are_pairs}
 use Rattle.numerals.specs.Integers.{signed_in}
 use Rattle.numerals.specs.Values.{value_in}
 use Rattle.scripts.specs.declared.Command.{Command}
-use Rattle.scripts.specs.declared.places.Kind.{Kind}
+use Rattle.scripts.specs.declared.Part.{Part}
 use Rattle.scripts.specs.declared.Mistake.{Mistake}
 use Rattle.scripts.specs.declared.Mistake.TheVariants.{NoCommand, TooManyWords, NoWord, NoSide, NoKnobNumber, NoCount, NoKnob, NoClicks, NoSwitch, NoSignal, NoWatch, NoKind, NoValue}
 use Rattle.scripts.specs.declared.Mistake.TheVariants.{NoDamage, NoPf, NoReference, NoSigned, NoSet, NoLength, NoStart, NoPairs, NoFlag, NoSpeed}
@@ -89,17 +96,21 @@ side_at text = option_or (beside sides (word_of text 1)) (number_at text 1 42949
 unfoldable pub with_side : (ℕ → Command) → List ℕ → Asked
 with_side ask text = if_some (side_at text) (λ n. ends_at text 2 (ask n)) NoSide
 
--- a knob by its name, or by a number of at most `most`
-unfoldable pub knob_at : List ℕ → ℕ → Option ℕ
-knob_at text most = option_or (beside knobs (word_of text 1)) (number_at text 1 most)
+-- word 1 as a knob, by its name or by a number
+unfoldable pub knob_at : List ℕ → Option ℕ
+knob_at text = option_or (beside knobs (word_of text 1)) (number_at text 1 4294967295)
 
 -- turn KNOB COUNT
 unfoldable pub turn_of : List ℕ → Asked
-turn_of text = if_some (knob_at text 4294967295) (λ knob. if_some (number_at text 2 255) (λ n. ends_at text 3 (Command.Call (Call.Turn knob n))) NoCount) NoKnobNumber
+turn_of text = if_some (knob_at text) (λ knob. if_some (number_at text 2 255) (λ n. ends_at text 3 (Command.Call (Call.Turn knob n))) NoCount) NoKnobNumber
+
+-- one of the four knobs
+abbrev pub one_knob : Option ℕ → Option Knob
+one_knob n = option_and_then (λ n. result_ok (knob_of n)) n
 
 -- knob KNOB CLICKS, of one of the four knobs; the clicks are kept modulo 256
 unfoldable pub clicks_of : List ℕ → Asked
-clicks_of text = if_some (knob_at text 3) (λ knob. if_some (clicks_in (word_of text 2)) (λ n. ends_at text 3 (Command.Knob knob n)) NoClicks) NoKnob
+clicks_of text = if_some (one_knob (knob_at text)) (λ knob. if_some (clicks_in (word_of text 2)) (λ n. ends_at text 3 (Command.Knob knob n)) NoClicks) NoKnob
 
 -- ---- press SWITCH and signal SIGNAL: the event of that name alone, as the word with its bit
 
@@ -144,18 +155,9 @@ kinds =
     ∷ ("heading", Kind.Heading)
     ∷ []
 
--- the reading of a kind
-abbrev pub reading_of : Kind → Float → Reading
-reading_of Kind.Altitude x = Reading.Altitude x
-reading_of Kind.Airspeed x = Reading.Airspeed x
-reading_of Kind.VerticalSpeed x = Reading.VerticalSpeed x
-reading_of Kind.Roll x = Reading.Roll x
-reading_of Kind.Pitch x = Reading.Pitch x
-reading_of Kind.Heading x = Reading.Heading x
-
 -- the words n and n + 1 as a kind and its value, or what is wrong with them
 unfoldable pub reading_at : List ℕ → ℕ → Result Reading Mistake
-reading_at text n = if_some (beside kinds (word_of text n)) (λ kind. if_some (value_in (word_of text (n + 1))) (λ x. Ok (reading_of kind x)) NoValue) NoKind
+reading_at text n = if_some (beside kinds (word_of text n)) (λ kind. if_some (value_in (word_of text (n + 1))) (λ x. Ok (of_kind kind x)) NoValue) NoKind
 
 abbrev pub if_reading : Result Reading Mistake → (Reading → Asked) → Asked
 if_reading (Ok r) ask = ask r
@@ -183,59 +185,49 @@ set_by lateral armed vertical vappr =
 abbrev pub if_number : List ℕ → ℕ → (ℕ → Asked) → Asked
 if_number text n ask = if_some (number_at text n 4294967295) ask NoSet
 
--- damage BOX set LATERAL ARMED VERTICAL VAPPR-ARMED
-unfoldable pub damage_set : ℕ → List ℕ → Asked
-damage_set box text =
+-- damage BOX set LATERAL ARMED VERTICAL VAPPR-ARMED, where BOX is a part of the bench that has a set and references
+unfoldable pub damage_set : Part → List ℕ → Asked
+damage_set part text =
     if_number text 3 (λ lateral. if_number text 4 (λ armed. if_number text 5 (λ vertical. if_number text 6 (λ vappr.
-    if_some (set_by lateral armed vertical vappr) (λ set. ends_at text 7 (Command.DamageSet box set)) NoSet))))
+    if_some (set_by lateral armed vertical vappr) (λ set. ends_at text 7 (Command.DamageSet part set)) NoSet))))
 
 -- damage BOX REFERENCE N and damage whole KIND N, a signed number of 32 bits
 unfoldable pub damage_number : (ℤ → Command) → List ℕ → Asked
 damage_number ask text = if_some (signed_in (word_of text 3)) (λ x. ends_at text 4 (ask x)) NoSigned
 
--- damage to the reference of a place, of a box
-abbrev pub reference : ℕ → ℕ → List ℕ → Asked
-reference place box text = damage_number (λ x. Command.DamageReference box place x) text
+abbrev pub damage_reference : Reference → Part → List ℕ → Asked
+damage_reference name part text = damage_number (λ x. Command.DamageReference part name x) text
 
--- the parts of a box
-unfoldable pub parts : List (String × (ℕ → List ℕ → Asked))
-parts =
-    ("heading", reference 0)
-    ∷ ("preselected", reference 1)
-    ∷ ("held", reference 2)
-    ∷ ("vertical-speed", reference 3)
-    ∷ ("ias", reference 4)
-    ∷ ("roll", reference 5)
-    ∷ ("pitch", reference 6)
+-- what can be damaged of a part: its references and its set
+unfoldable pub contents : List (String × (Part → List ℕ → Asked))
+contents =
+    ("heading", damage_reference Reference.Heading)
+    ∷ ("preselected", damage_reference Reference.Preselected)
+    ∷ ("held", damage_reference Reference.Held)
+    ∷ ("vertical-speed", damage_reference Reference.VerticalSpeed)
+    ∷ ("ias", damage_reference Reference.Ias)
+    ∷ ("roll", damage_reference Reference.Roll)
+    ∷ ("pitch", damage_reference Reference.Pitch)
     ∷ ("set", damage_set)
     ∷ []
 
-unfoldable pub damage_box : ℕ → List ℕ → Asked
-damage_box box text = if_some (beside parts (word_of text 2)) (λ damage. damage box text) NoReference
-
--- the number by which the whole value of a kind is kept
-abbrev pub kind_number : Kind → ℕ
-kind_number Kind.Altitude = 0
-kind_number Kind.Airspeed = 1
-kind_number Kind.VerticalSpeed = 2
-kind_number Kind.Roll = 3
-kind_number Kind.Pitch = 4
-kind_number Kind.Heading = 5
+unfoldable pub damage_part : Part → List ℕ → Asked
+damage_part part text = if_some (beside contents (word_of text 2)) (λ damage. damage part text) NoReference
 
 -- the whole value of a kind
 unfoldable pub damage_whole : List ℕ → Asked
-damage_whole text = if_some (beside kinds (word_of text 2)) (λ kind. damage_number (λ x. Command.DamageWhole (kind_number kind) x) text) NoKind
+damage_whole text = if_some (beside kinds (word_of text 2)) (λ kind. damage_number (λ x. Command.DamageWhole kind x) text) NoKind
 
 unfoldable pub damage_reading : List ℕ → Asked
 damage_reading text = if_reading (reading_at text 2) (λ r. ends_at text 4 (Command.DamageReading r))
 
--- boxes, whole values, and the three other things that can be damaged
+-- parts, whole values, and the three other things that can be damaged
 unfoldable pub damages : List (String × (List ℕ → Asked))
 damages =
-    ("left", damage_box 0)
-    ∷ ("right", damage_box 1)
-    ∷ ("left-inbox", damage_box 2)
-    ∷ ("right-inbox", damage_box 3)
+    ("left", damage_part (Part.Side Side.Left))
+    ∷ ("right", damage_part (Part.Side Side.Right))
+    ∷ ("left-inbox", damage_part (Part.Inbox Side.Left))
+    ∷ ("right-inbox", damage_part (Part.Inbox Side.Right))
     ∷ ("whole", damage_whole)
     ∷ ("reading", damage_reading)
     ∷ ("pf", with_number (λ n. Command.DamagePf n) 2 255 NoPf)

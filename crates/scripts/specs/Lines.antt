@@ -7,8 +7,13 @@ use Rattle.modes.specs.declared.ArmedLateral.{ArmedLateral}
 use Rattle.modes.specs.declared.Vertical.{Vertical}
 use Rattle.modes.specs.declared.Modes.{Modes}
 use Rattle.modes.specs.declared.ModeSet.{ModeSet}
-use Rattle.bench.specs.declared.Reading.{Reading}
+use Rattle.sides.specs.declared.Side.{Side}
+use Rattle.feed.specs.declared.Kind.{Kind}
+use Rattle.feed.specs.declared.Reading.{Reading}
+use Rattle.channels.specs.declared.knobs.Knob.{Knob}
+use Rattle.channels.specs.declared.references.Reference.{Reference}
 use Rattle.bench.specs.declared.call.Call.{Call}
+use Rattle.scripts.specs.declared.Part.{Part}
 use Rattle.scripts.specs.declared.Command.{Command}
 use Rattle.scripts.specs.declared.Mistake.TheVariants.{NoCommand, TooManyWords, NoWord, NoSide, NoKnobNumber, NoCount, NoKnob, NoClicks, NoSwitch, NoSignal, NoWatch, NoKind, NoValue}
 use Rattle.scripts.specs.declared.Mistake.TheVariants.{NoDamage, NoPf, NoReference, NoSigned, NoSet, NoLength, NoStart, NoPairs, NoFlag, NoSpeed}
@@ -36,8 +41,8 @@ examples =
     ∷ ("turn altitude 255", Ok (Command.Call (Call.Turn 1 255)))
     ∷ ("turn x 1", Err NoKnobNumber)
     ∷ ("turn 3 256", Err NoCount)
-    ∷ ("knob heading 9", Ok (Command.Knob 3 9))
-    ∷ ("knob 0 -9", Ok (Command.Knob 0 247))
+    ∷ ("knob heading 9", Ok (Command.Knob Knob.Heading 9))
+    ∷ ("knob 0 -9", Ok (Command.Knob Knob.Wheel 247))
     ∷ ("knob 4 9", Err NoKnob)
     ∷ ("knob wheel 128", Err NoClicks)
     ∷ ("press hdg", Ok (Command.Call (Call.Event 16384)))
@@ -74,17 +79,17 @@ examples =
     ∷ ("damage independent 2", Err NoFlag)
     ∷ ("damage independent on", Err NoFlag)
     ∷ ("damage independent 1 1", Err TooManyWords)
-    ∷ ("damage right-inbox set 0 9 9 9", Ok (Command.DamageSet 3 ModeSet.Off))
+    ∷ ("damage right-inbox set 0 9 9 9", Ok (Command.DamageSet (Part.Inbox Side.Right) ModeSet.Off))
     ∷ ("damage left set 0 9 9 x", Err NoSet)
-    ∷ ("damage left set 5 2 8 1", Ok (Command.DamageSet 0 (ModeSet.On lga_vga)))
+    ∷ ("damage left set 5 2 8 1", Ok (Command.DamageSet (Part.Side Side.Left) (ModeSet.On lga_vga)))
     ∷ ("damage left set 5 2 0 1", Err NoSet)
-    ∷ ("damage right pitch -12", Ok (Command.DamageReference 1 6 (negsuc 11)))
-    ∷ ("damage left-inbox heading 12", Ok (Command.DamageReference 2 0 (pos 12)))
+    ∷ ("damage right pitch -12", Ok (Command.DamageReference (Part.Side Side.Right) Reference.Pitch (negsuc 11)))
+    ∷ ("damage left-inbox heading 12", Ok (Command.DamageReference (Part.Inbox Side.Left) Reference.Heading (pos 12)))
     ∷ ("damage left heading 1.5", Err NoSigned)
     ∷ ("damage left speed 1", Err NoReference)
     ∷ ("damage reading pitch -inf", Ok (Command.DamageReading (Reading.Pitch (inf true))))
-    ∷ ("damage whole heading 360", Ok (Command.DamageWhole 5 (pos 360)))
-    ∷ ("damage whole altitude -2147483648", Ok (Command.DamageWhole 0 (negsuc 2147483647)))
+    ∷ ("damage whole heading 360", Ok (Command.DamageWhole Kind.Heading (pos 360)))
+    ∷ ("damage whole altitude -2147483648", Ok (Command.DamageWhole Kind.Altitude (negsuc 2147483647)))
     ∷ ("damage whole altitude 2147483648", Err NoSigned)
     ∷ ("damage whole left 0", Err NoKind)
     ∷ ("damage whole roll", Err NoSigned)

@@ -7,26 +7,35 @@ mod places;
 
 ghost use Rattle.std.specs.Prelude.{◌≡◌, ℕ, Bool};
 ghost use Rattle.words.specs.Words.{word_of};
-ghost use Rattle.scripts.specs.Commands.{beside, knobs, knob_at, turn_of, clicks_of, is_signal, is_switch, event_named, Computes, event_if, watch_of, start_of};
+ghost use Rattle.scripts.specs.Commands.{beside, knobs, knob_at, one_knob, turn_of, clicks_of, is_signal, is_switch, event_named, Computes, event_if, watch_of, start_of};
 ghost use Rattle.scripts.specs.Commands.{command_by, command_in, text_of, command_of, pairs_of};
 
-use bench::Reading;
 use bench::call::Call;
+use channels::knobs::Knob;
+use channels::references::Reference;
 use damage::damage;
+use feed::{Kind, Reading};
 use modes::ModeSet;
 use places::{ends_at, number_at, reading_at, with_number, with_side};
+use sides::Side;
 
-// A box is a part of the bench with a flight director, a set and references: 0 left, 1 right, 2 the
-// left inbox, 3 the right inbox. A reference goes by its place in the order of a display, from 0.
-// These, and sides, knobs and kinds, are numbers, since a script may name any number and the calls refuse it.
+// A part of the bench with a flight director, a set and references.
+#[derive(Clone, Copy)]
+pub enum Part {
+    Side(Side),
+    Inbox(Side),
+}
+
+// The sides and knobs of calls, of a pick and of a frame are numbers, since a script may name any number and the calls
+// refuse it. Clicks go from the last count of a knob, which four knobs have.
 #[derive(Clone, Copy)]
 pub enum Command {
     Blank,
     // a call of the bench
     Call(Call),
     Pick(u32),
-    // a knob, and clicks modulo 256
-    Knob(u32, u8),
+    // clicks modulo 256
+    Knob(Knob, u8),
     PowerOn,
     // at a speed in knots
     Start(i32),
@@ -36,10 +45,10 @@ pub enum Command {
     Watch(bool),
     DamagePf(u32),
     DamageReading(Reading),
-    // the whole value of a kind, which goes by its number from 0
-    DamageWhole(u32, i32),
-    DamageSet(u32, ModeSet),
-    DamageReference(u32, u32, i32),
+    // the whole value of a kind
+    DamageWhole(Kind, i32),
+    DamageSet(Part, ModeSet),
+    DamageReference(Part, Reference, i32),
     DamageIndependent(bool),
     // what goes to the bus area and from it; a place there has 64 bits
     Area(u32),
@@ -92,12 +101,19 @@ pub enum Mistake {
     NoSpeed,
 }
 
-// A knob by its name, or by a number of at most `most`.
+// Word 1 as a knob, by its name or by a number.
 #[tactic(auto, unfolding(crate::specs::Commands::knob_at))]
-fn knob_at(text: &[u8], most: u32) -> Option<u32>
-    ensures { result ≡ knob_at text.now most }
+fn knob_at(text: &[u8]) -> Option<u32>
+    ensures { result ≡ knob_at text.now }
 {
-    knob_named(text).or(number_at(text, 1, most))
+    knob_named(text).or(number_at(text, 1, u32::MAX))
+}
+
+// One of the four knobs.
+fn one_knob(text: &[u8]) -> Option<Knob>
+    ensures { result ≡ one_knob (knob_at text.now) }
+{
+    Knob::try_from(knob_at(text)?).ok()
 }
 
 // The number of the knob that word 1 names.
@@ -120,7 +136,7 @@ fn knob_named(text: &[u8]) -> Option<u32>
 fn turn(text: &[u8]) -> Result<Command, Mistake>
     ensures { result ≡ turn_of text.now }
 {
-    let knob = knob_at(text, u32::MAX).ok_or(Mistake::NoKnobNumber)?;
+    let knob = knob_at(text).ok_or(Mistake::NoKnobNumber)?;
     let count = number_at(text, 2, 255).ok_or(Mistake::NoCount)?;
     ends_at(text, 3, Command::Call(Call::Turn(knob, count as u8)))
 }
@@ -130,7 +146,7 @@ fn turn(text: &[u8]) -> Result<Command, Mistake>
 fn clicks(text: &[u8]) -> Result<Command, Mistake>
     ensures { result ≡ clicks_of text.now }
 {
-    let knob = knob_at(text, 3).ok_or(Mistake::NoKnob)?;
+    let knob = one_knob(text).ok_or(Mistake::NoKnob)?;
     let clicks = numerals::clicks(words::word(text, 2)).ok_or(Mistake::NoClicks)?;
     ends_at(text, 3, Command::Knob(knob, clicks))
 }

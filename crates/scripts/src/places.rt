@@ -1,10 +1,10 @@
 // The words of a line in their places: as numbers, as names, as readings; and the end of a command.
 ghost use Rattle.std.specs.Prelude.{◌≡◌, ◌<◌, ℕ, ok_or};
 ghost use Rattle.words.specs.Words.{word_of};
-ghost use Rattle.scripts.specs.Commands.{beside, sides, ends_at, number_at, with_number, Computes, side_at, with_side, kinds, kind_number, reading_of, reading_at};
+ghost use Rattle.scripts.specs.Commands.{beside, sides, ends_at, number_at, with_number, Computes, side_at, with_side, kinds, reading_at};
 
 use crate::{Command, Mistake};
-use bench::Reading;
+use feed::{Kind, Reading};
 
 // What is asked, if a text has no word behind its first n.
 #[tactic(auto, unfolding(crate::specs::Commands::ends_at))]
@@ -74,26 +74,6 @@ pub(crate) fn with_side<F: FnOnce(u32) -> Command>(text: &[u8], ask: F) -> Resul
     ends_at(text, 2, ask(side))
 }
 
-// The kinds of readings, in the order of their numbers. A kind is read before its value is.
-#[derive(Clone, Copy)]
-pub(crate) enum Kind {
-    Altitude,
-    Airspeed,
-    VerticalSpeed,
-    Roll,
-    Pitch,
-    Heading,
-}
-
-// The number by which the whole value of a kind is kept.
-impl From<Kind> for u32 {
-    ghost from_gives = { λ kind number. number ≡ kind_number kind };
-
-    fn from(kind: Kind) -> u32 {
-        kind as u32
-    }
-}
-
 // The kind that word n names.
 #[tactic(auto, unfolding(crate::specs::Commands::kinds))]
 pub(crate) fn kind_at(text: &[u8], n: usize) -> Option<Kind>
@@ -111,20 +91,6 @@ pub(crate) fn kind_at(text: &[u8], n: usize) -> Option<Kind>
     }
 }
 
-// The reading of a kind that has this value.
-fn reading_of(kind: Kind, value: f64) -> Reading
-    ensures { result ≡ reading_of kind value }
-{
-    match kind {
-        Kind::Altitude => Reading::Altitude(value),
-        Kind::Airspeed => Reading::Airspeed(value),
-        Kind::VerticalSpeed => Reading::VerticalSpeed(value),
-        Kind::Roll => Reading::Roll(value),
-        Kind::Pitch => Reading::Pitch(value),
-        Kind::Heading => Reading::Heading(value),
-    }
-}
-
 // The reading of KIND VALUE, the words n and n + 1. What is wrong with the kind comes first.
 #[tactic(auto, unfolding(crate::specs::Commands::reading_at))]
 pub(crate) fn reading_at(text: &[u8], n: usize) -> Result<Reading, Mistake>
@@ -133,5 +99,5 @@ pub(crate) fn reading_at(text: &[u8], n: usize) -> Result<Reading, Mistake>
 {
     let kind = kind_at(text, n).ok_or(Mistake::NoKind)?;
     let value = numerals::value(words::word(text, n + 1)).ok_or(Mistake::NoValue)?;
-    Ok(reading_of(kind, value))
+    Ok(kind.reading(value))
 }
