@@ -3,22 +3,29 @@
 use Rattle.std.specs.Prelude.{ℕ, ◌+◌, ◌%◌, Result, Ok}
 use Rattle.std.specs.Result.{result_and}
 use Rattle.refusals.specs.declared.Refusal.{Refusal}
+use Rattle.channels.specs.declared.knobs.Knob.{Knob}
 use Rattle.scripts.specs.Commands.{Asked}
 use Rattle.scripts.specs.declared.Command.{Command}
 use Rattle.bench.specs.declared.Bench.{Bench}
 use Rattle.bench.specs.declared.call.Call.{Call}
 use Rattle.bench.specs.Holds.{power_on, started}
-use Rattle.bench.specs.Parts.{count_of}
-use Rattle.bench.specs.Independent.{with_operation}
+use Rattle.bench.specs.Counts.{count_of}
 use Rattle.calls.specs.declared.reply.Reply.{Reply}
 use Rattle.calls.specs.Calls.{reply, next}
 use Rattle.acts.specs.declared.Effect.{Effect}
 use Rattle.scripts.specs.declared.AreaAct.{AreaAct}
-use Rattle.acts.specs.Damage.{pf_damaged, set_damaged, reference_damaged, reading_damaged, whole_damaged}
+use Rattle.acts.specs.Damage.{pf_damaged, independent_damaged, set_damaged, reference_damaged, reading_damaged, whole_damaged}
+
+-- a call names a knob by its number
+abbrev pub knob_number : Knob → ℕ
+knob_number Knob.Wheel = 0
+knob_number Knob.Altitude = 1
+knob_number Knob.Speed = 2
+knob_number Knob.Heading = 3
 
 -- a knob that goes so many clicks from its last count, modulo 256, is turned to the count that it comes to
-abbrev pub clicked : ℕ → ℕ → Bench → Call
-clicked knob clicks b = Call.Turn knob ((count_of knob b.counts + clicks) % 256)
+abbrev pub clicked : Knob → ℕ → Bench → Call
+clicked knob clicks b = Call.Turn (knob_number knob) ((count_of knob b.counts + clicks) % 256)
 
 -- what a line answers that asks for a command: a call and a start may be refused, and nothing else
 unfoldable pub answer_to : Asked → Bench → Result Reply Refusal
@@ -36,9 +43,9 @@ bench_after (Ok (Command.Start speed)) b = (started speed).bench
 bench_after (Ok (Command.DamagePf n)) b = pf_damaged n b
 bench_after (Ok (Command.DamageReading r)) b = reading_damaged r b
 bench_after (Ok (Command.DamageWhole kind x)) b = whole_damaged kind x b
-bench_after (Ok (Command.DamageSet n set)) b = set_damaged n set b
-bench_after (Ok (Command.DamageReference n place x)) b = reference_damaged n place x b
-bench_after (Ok (Command.DamageIndependent on)) b = with_operation on b
+bench_after (Ok (Command.DamageSet part set)) b = set_damaged part set b
+bench_after (Ok (Command.DamageReference part name x)) b = reference_damaged part name x b
+bench_after (Ok (Command.DamageIndependent on)) b = independent_damaged on b
 bench_after asked b = b
 
 -- ---- what a command is for: it can change the bench, it turns the watch on or off, it changes the bus area, or else it shows something
@@ -52,8 +59,8 @@ effect_of (Ok (Command.Start speed)) = Effect.Acts
 effect_of (Ok (Command.DamagePf n)) = Effect.Acts
 effect_of (Ok (Command.DamageReading r)) = Effect.Acts
 effect_of (Ok (Command.DamageWhole kind x)) = Effect.Acts
-effect_of (Ok (Command.DamageSet n set)) = Effect.Acts
-effect_of (Ok (Command.DamageReference n place x)) = Effect.Acts
+effect_of (Ok (Command.DamageSet part set)) = Effect.Acts
+effect_of (Ok (Command.DamageReference part name x)) = Effect.Acts
 effect_of (Ok (Command.DamageIndependent on)) = Effect.Acts
 effect_of (Ok (Command.Watch on)) = Effect.Watches on
 effect_of (Ok (Command.Area n)) = Effect.Stores (AreaAct.Clears n)

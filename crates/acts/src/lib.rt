@@ -4,23 +4,30 @@
 mod damage;
 
 ghost use Rattle.std.specs.Prelude.{◌≡◌};
-ghost use Rattle.acts.specs.Acts.{clicked, effect_of, answer_to, bench_after};
+ghost use Rattle.acts.specs.Acts.{knob_number, clicked, effect_of, answer_to, bench_after};
 
-use bench::Bench;
 use bench::call::Call;
-use bench::parts::count_of;
+use bench::{Bench, starts};
 use calls::reply::Reply;
+use channels::knobs::Knob;
 use damage::{
     damage_independent, damage_pf, damage_reading, damage_reference, damage_set, damage_whole,
 };
 use refusals::Refusal;
 use scripts::{AreaAct, Command, Mistake};
 
+// The number by which a call names a knob.
+fn knob_number(knob: Knob) -> u32
+    ensures { result ≡ knob_number knob }
+{
+    knob as u32
+}
+
 // The turn of a knob by so many clicks, modulo 256, from its last count.
-fn clicked(b: &Bench, knob: u32, clicks: u8) -> Call
+fn clicked(b: &Bench, knob: Knob, clicks: u8) -> Call
     ensures { result ≡ clicked knob clicks b.now }
 {
-    Call::Turn(knob, count_of(b.counts, knob).wrapping_add(clicks))
+    Call::Turn(knob_number(knob), b.counts.get(knob).wrapping_add(clicks))
 }
 
 // What a command is for, beside its answer: it shows something, it can change the bench, it turns the watch on
@@ -84,16 +91,16 @@ pub fn answer_to(b: &mut Bench, asked: Result<Command, Mistake>) -> Result<Reply
             return calls::apply(b, turn);
         }
         Command::Start(speed) => {
-            let started = bench::start(speed);
+            let started = starts::start(speed);
             *b = started.bench;
             return started.outcome.and(Ok(Reply::Done));
         }
-        Command::PowerOn => *b = bench::power_on(),
+        Command::PowerOn => *b = starts::power_on(),
         Command::DamagePf(n) => damage_pf(b, n),
         Command::DamageReading(r) => damage_reading(b, r),
         Command::DamageWhole(kind, x) => damage_whole(b, kind, x),
-        Command::DamageSet(n, set) => damage_set(b, n, set),
-        Command::DamageReference(n, place, x) => damage_reference(b, n, place, x),
+        Command::DamageSet(part, set) => damage_set(b, part, set),
+        Command::DamageReference(part, name, x) => damage_reference(b, part, name, x),
         Command::DamageIndependent(on) => damage_independent(b, on),
         Command::Blank
         | Command::Pick(_)
