@@ -2,7 +2,6 @@
 use mathlib.Core.Path.{refl}
 use Rattle.modes.specs.Sets.{engaged, armed, cleared, once, coherent}
 use Rattle.codes.specs.Codes.{coded_sets, code_of}
-use Rattle.bench.specs.Parts.{with_reference}
 use Rattle.bench.specs.Holds.{start_channel, bench_at, power_on}
 use Rattle.frames.specs.Frames.{raised, frame_of}
 use Rattle.frames.specs.Laws.{FrameLaws, FrameExamples}
@@ -27,5 +26,5 @@ frame_laws = record {
 }
 
 pub frame_examples : FrameExamples
-unfolding frame_of raised power_on bench_at start_channel with_reference code_of coded_sets coherent once cleared armed engaged
+unfolding frame_of raised power_on bench_at start_channel code_of coded_sets coherent once cleared armed engaged
 frame_examples = record { start = refl; many = refl }

@@ -4,32 +4,32 @@ use mathlib.Core.Bool.{Bool, true, false, ◌&&◌, cond}
 use mathlib.Core.List.{List, [], ◌∷◌, ◌++◌, append-nil}
 use Prim.Native.Nat.{ℕ, zero, suc, ◌+◌, ◌*◌, ◌≤◌}
 use native.Mathlib.Omega.{arith}
-use borrow.Author.Tests.{eqb-true, le-ltb, ltb-true, ltb-false, le-leb, leb-true}
-use lib.Dec.{T, eqb, leb, ltb, ltb→lt}
-use lib.IntN.{ℤ, pos, negsuc, neg_ℤ, ◌-ℤ◌}
-use lib.Signed.{le_z}
+use borrow.Author.Tests.{eqb-true, le-ltb, ltb-true, ltb-false, leb-true}
+use lib.Dec.{T, eqb, leb, ltb}
+use lib.IntN.{pos, ◌+ℤ◌}
 use lib.ListN.{length, take, drop, length-append, take-append-drop}
 use lib.Seq.{take_all, drop-cons, length-take-le}
+use Rattle.refusals.proofs.Choices.{and_left, and_right, and_both}
+use Rattle.sides.specs.declared.Side.{Side}
+use Rattle.sides.specs.Sides.{number, side_of}
+use Rattle.sides.proofs.Laws.{side_laws}
 use Rattle.modes.specs.declared.ModeSet.{ModeSet}
 use Rattle.modes.specs.Sets.{coherent_set}
 use Rattle.modes.specs.Every.{flag_number}
-use Rattle.std.specs.Prelude.{Option, Some, None, Ok, Err}
+use Rattle.std.specs.Prelude.{Option, Some, None, Result, Ok, Err}
 use Rattle.refusals.specs.declared.Refusal.{Refusal}
 use Rattle.refusals.specs.Refusals.{number_of_refusal}
 use Rattle.refusals.specs.Told.{told}
-use Rattle.codes.specs.Codes.{set_of}
+use Rattle.codes.specs.Codes.{code_of, set_of}
 use Rattle.codes.proofs.Laws.{code_laws, decoded}
-use Rattle.bench.specs.declared.References.{References}
-use Rattle.bench.specs.declared.Channel.{Channel}
-use Rattle.bench.specs.declared.ranges.Range.{Range}
-use Rattle.bench.specs.Parts.{reference}
-use Rattle.bench.specs.Ranges.{range, within, reference_range}
-use Rattle.bench.specs.Sound.{references_sound, channel_sound}
-use Rattle.bench.proofs.SoundParts.{and_left, and_right, and_both, ReferencesIn, ChannelIn, references_whole, channel_parts}
+use Rattle.channels.specs.declared.Channel.{Channel}
+use Rattle.channels.specs.declared.references.Reference.{Reference}
+use Rattle.channels.specs.Sound.{references_sound, channel_sound}
+use Rattle.channels.proofs.Sound.{ReferencesIn, channel_parts}
 use Rattle.frames.specs.declared.Frame.{Frame}
-use Rattle.frames.specs.Frames.{raised, high, low, frame_of, byte_at, one_byte, two_bytes, is_marked, references_in, in_range, frame_in, read_with_set, fields_read, frame_read, read_at, no_frame}
+use Rattle.frames.specs.Frames.{added, natural, raised, high, low, frame_of, byte_at, one_byte, two_bytes, is_marked, references_in, in_range, frame_in, read_with, fields_read, frame_read, read_at, no_frame}
 use Rattle.frames.specs.Laws.{Bytes, accepted_read, ItsFrame}
-use Rattle.frames.proofs.Numbers.{Raised, raised_from, raised_back, lowered_back, joined, kept_low, high_of, low_of}
+use Rattle.frames.proofs.Numbers.{two_back, one_back, lowered_back, kept_low, high_of, low_of}
 use Rattle.frames.proofs.Areas.{frame_length}
 
 -- ---- the first bytes of a part
@@ -64,14 +64,15 @@ module _ (part rest rest' : List ℕ) where
   unfolding is_marked
   same_mark = refl
 
-  same_set_lem : (k : Option ModeSet) → read_with_set k (front rest) ≡ read_with_set k (front rest')
+  same_lem : (s : Result Side Refusal) (k : Option ModeSet) → read_with s k (front rest) ≡ read_with s k (front rest')
   unfolding references_in
-  same_set_lem (Some s) = refl
-  same_set_lem None = refl
+  same_lem (Ok s) (Some set) = refl
+  same_lem (Ok s) None = refl
+  same_lem (Err r) k = refl
 
   same_fields : fields_read (front rest) ≡ fields_read (front rest')
   unfolding fields_read
-  same_fields = same_set_lem (set_of (byte_at part 7))
+  same_fields = same_lem (side_of (byte_at part 5)) (set_of (byte_at part 7))
 
   first_judged : frame_read (front rest) ≡ frame_read (front rest')
   first_judged =
@@ -102,38 +103,17 @@ local start start' area area' e = by_first (drop start area) ∙ ap frame_read e
 
 -- ---- a frame is read as what it was made of
 
--- the references of a sound channel are raised to what their bytes have room for
-module _ (r : References) (ok : ReferencesIn r) where
-  raised_in : (n by high : ℕ) (low : ℤ) → n ≤ 6 → reference_range n ≡ range low (pos high) → T (le_z (neg_ℤ (pos by)) low) → Raised by (high + by) (reference n r)
-  raised_in n by high low h e l =
-      let inside = subst (λ (k : Range). within k (reference n r) ≡ true) e (ok.each n h) in
-      raised_from by high low (reference n r) l (and_left (le_z low (reference n r)) (le_z (reference n r) (pos high)) inside)
-      (and_right (le_z low (reference n r)) (le_z (reference n r) (pos high)) inside)
-
--- a frame's bytes of a reference give it back
-two_back : {by most : ℕ} {x : ℤ} → Raised by most x → T (ltb most 65536) → pos (high (raised by x) * 256 + low (raised by x)) -ℤ pos by ≡ x
-two_back {by} {most} {x} r t =
-    let l = ltb→lt most 65536 t in
-    let h = r.below in
-    ap (λ (n : ℕ). pos n -ℤ pos by) (joined (raised by x) (omega arith)) ∙ raised_back r
-
-one_back : {by most : ℕ} {x : ℤ} → Raised by most x → T (ltb most 256) → pos (low (raised by x)) -ℤ pos by ≡ x
-one_back {by} {most} {x} r t =
-    let l = ltb→lt most 256 t in
-    let h = r.below in
-    ap (λ (n : ℕ). pos n -ℤ pos by) (kept_low (raised by x) (omega arith)) ∙ raised_back r
-
-references_back : (side : ℕ) (c : Channel) (rest : List ℕ) → ReferencesIn c.references → references_in (frame_of side c ++ rest) ≡ c.references
-unfolding references_in frame_of reference_range
-references_back side c rest ok =
+references_back : (s : Side) (c : Channel) (rest : List ℕ) → ReferencesIn c.references → references_in (frame_of s c ++ rest) ≡ c.references
+unfolding references_in frame_of
+references_back s c rest ok =
     let r = c.references in
-    let heading = two_back (raised_in r ok 0 0 359 (pos 0) (omega arith) refl tt) tt in
-    let preselected = two_back (raised_in r ok 1 8000 56000 (negsuc 7999) (omega arith) refl tt) tt in
-    let held = two_back (raised_in r ok 2 8000 56000 (negsuc 7999) (omega arith) refl tt) tt in
-    let vertical_speed = one_back (raised_in r ok 3 50 50 (negsuc 49) (omega arith) refl tt) tt in
-    let ias = two_back (raised_in r ok 4 0 400 (pos 60) (omega arith) refl tt) tt in
-    let roll = one_back (raised_in r ok 5 27 27 (negsuc 26) (omega arith) refl tt) tt in
-    let pitch = one_back (raised_in r ok 6 20 20 (negsuc 19) (omega arith) refl tt) tt in
+    let heading = two_back Reference.Heading r (ok.each Reference.Heading) in
+    let preselected = two_back Reference.Preselected r (ok.each Reference.Preselected) in
+    let held = two_back Reference.Held r (ok.each Reference.Held) in
+    let vertical_speed = one_back Reference.VerticalSpeed r tt (ok.each Reference.VerticalSpeed) in
+    let ias = two_back Reference.Ias r (ok.each Reference.Ias) in
+    let roll = one_back Reference.Roll r tt (ok.each Reference.Roll) in
+    let pitch = one_back Reference.Pitch r tt (ok.each Reference.Pitch) in
     λ i. record {
       heading = heading i;
       preselected = preselected i;
@@ -156,25 +136,27 @@ flag_back : (f : Bool) → eqb (flag_number f) 1 ≡ f
 flag_back true = refl
 flag_back false = refl
 
-marked : (side : ℕ) (c : Channel) (rest : List ℕ) → is_marked (frame_of side c ++ rest) ≡ true
+marked : (s : Side) (c : Channel) (rest : List ℕ) → is_marked (frame_of s c ++ rest) ≡ true
 unfolding is_marked frame_of
-marked side c rest = refl
+marked s c rest = refl
 
 -- the fields of a frame, from what is known of each
-fields_back : (side : ℕ) (c : Channel) (rest : List ℕ) → leb side 1 ≡ true → ChannelIn c → fields_read (frame_of side c ++ rest) ≡ accepted_read side c
-unfolding fields_read frame_of
-fields_back side c rest is_side ok =
-    let part = frame_of side c ++ rest in
-    let references = references_back side c rest ok.references in
-    let sound = ap references_sound references ∙ references_whole c.references ok.references in
-    ap (λ (k : Option ModeSet). read_with_set k part) (code_laws.set_back c.set (subst T (sym ok.set) tt))
-    ∙ (λ i. cond (is_side i && flag_le c.fd i && sound i) (Ok (record { side = side; channel = record { fd = flag_back c.fd i; set = c.set; references = references i } })) (Err Refusal.FieldOutOfRange))
+fields_back : (s : Side) (c : Channel) (rest : List ℕ) → channel_sound c ≡ true → fields_read (frame_of s c ++ rest) ≡ accepted_read s c
+unfolding fields_read frame_of channel_sound
+fields_back s c rest h =
+    let part = frame_of s c ++ rest in
+    let coherent = and_left (coherent_set c.set) (references_sound c.references) h in
+    let references = references_back s c rest (channel_parts c h).references in
+    let sound = ap references_sound references ∙ and_right (coherent_set c.set) (references_sound c.references) h in
+    ap (λ (n : Result Side Refusal). read_with n (set_of (code_of c.set)) part) ((side_laws.named (number s) s).1 refl)
+    ∙ ap (λ (k : Option ModeSet). read_with (Ok s) k part) (code_laws.set_back c.set (subst T (sym coherent) tt))
+    ∙ (λ i. cond (flag_le c.fd i && sound i) (Ok (record { side = s; channel = record { fd = flag_back c.fd i; set = c.set; references = references i } })) (Err Refusal.FieldOutOfRange))
 
-pub read_back : (side : ℕ) (c : Channel) (rest : List ℕ) → side ≤ 1 → T (channel_sound c) → frame_read (frame_of side c ++ rest) ≡ accepted_read side c
-read_back side c rest h t =
-    let part = frame_of side c ++ rest in
-    judged part (let l = length-append (frame_of side c) rest in let n = frame_length side c in omega arith)
-    ∙ (λ i. cond (marked side c rest i) (fields_back side c rest (le-leb side 1 h) (channel_parts c (is_true (channel_sound c) t)) i) (Err Refusal.NoFrame))
+pub read_back : (s : Side) (c : Channel) (rest : List ℕ) → T (channel_sound c) → frame_read (frame_of s c ++ rest) ≡ accepted_read s c
+read_back s c rest t =
+    let part = frame_of s c ++ rest in
+    judged part (let l = length-append (frame_of s c) rest in let n = frame_length s c in omega arith)
+    ∙ (λ i. cond (marked s c rest i) (fields_back s c rest (is_true (channel_sound c) t) i) (Err Refusal.NoFrame))
 
 -- ---- an accepted read comes from one frame
 
@@ -182,26 +164,29 @@ read_back side c rest h t =
 record Shown (part : List ℕ) (f : Frame) : Type 0 where
   pub long : 19 ≤ length part
   pub mark : is_marked part ≡ true
+  pub side : Side
+  pub named : side_of (byte_at part 5) ≡ Ok side
   pub set : ModeSet
   pub code : set_of (byte_at part 7) ≡ Some set
   pub ranges : in_range part ≡ true
-  pub frame : frame_in set part ≡ f
+  pub frame : frame_in side set part ≡ f
 
 shown : (part : List ℕ) (f : Frame) → frame_read part ≡ Ok f → Shown part f
 unfolding frame_read fields_read
-shown part f e = go (ltb (length part) 19) (is_marked part) (set_of (byte_at part 7)) refl refl refl e
+shown part f e = go (ltb (length part) 19) (is_marked part) (side_of (byte_at part 5)) (set_of (byte_at part 7)) refl refl refl refl e
   where
-    with_set : (s : ModeSet) → 19 ≤ length part → is_marked part ≡ true → set_of (byte_at part 7) ≡ Some s →
-        (t : Bool) → in_range part ≡ t → cond t (Ok (frame_in s part)) (Err Refusal.FieldOutOfRange) ≡ Ok f → Shown part f
-    with_set s l m k false t e = absurd (cc)
-    with_set s l m k true t e = record { long = l; mark = m; set = s; code = k; ranges = t; frame = cc }
+    with_set : (s : Side) (set : ModeSet) → 19 ≤ length part → is_marked part ≡ true → side_of (byte_at part 5) ≡ Ok s → set_of (byte_at part 7) ≡ Some set →
+        (t : Bool) → in_range part ≡ t → cond t (Ok (frame_in s set part)) (Err Refusal.FieldOutOfRange) ≡ Ok f → Shown part f
+    with_set s set l m n k false t e = absurd (cc)
+    with_set s set l m n k true t e = record { long = l; mark = m; side = s; named = n; set = set; code = k; ranges = t; frame = cc }
 
-    go : (t u : Bool) (k : Option ModeSet) → ltb (length part) 19 ≡ t → is_marked part ≡ u → set_of (byte_at part 7) ≡ k →
-        cond t (Err Refusal.NoRoom) (cond u (read_with_set k part) (Err Refusal.NoFrame)) ≡ Ok f → Shown part f
-    go true u k p q r e = absurd (cc)
-    go false false k p q r e = absurd (cc)
-    go false true None p q r e = absurd (cc)
-    go false true (Some s) p q r e = with_set s (ltb-false (length part) 19 p) q r (in_range part) refl e
+    go : (t u : Bool) (s : Result Side Refusal) (k : Option ModeSet) → ltb (length part) 19 ≡ t → is_marked part ≡ u → side_of (byte_at part 5) ≡ s → set_of (byte_at part 7) ≡ k →
+        cond t (Err Refusal.NoRoom) (cond u (read_with s k part) (Err Refusal.NoFrame)) ≡ Ok f → Shown part f
+    go true u s k p q n r e = absurd (cc)
+    go false false s k p q n r e = absurd (cc)
+    go false true (Err x) k p q n r e = absurd (cc)
+    go false true (Ok s) None p q n r e = absurd (cc)
+    go false true (Ok s) (Some set) p q n r e = with_set s set (ltb-false (length part) 19 p) q n r (in_range part) refl e
 
 -- the five bytes in front
 record Marked (part : List ℕ) : Type 0 where
@@ -236,47 +221,45 @@ flag_of (suc zero) h = refl
 flag_of (suc (suc n)) h = absurd (let l = leb-true (suc (suc n)) 1 h in omega arith)
 
 -- the bytes of what two bytes say, and of what one says
-two_of : (part : List ℕ) → Bytes part → (k by : ℕ) → (high (raised by (two_bytes part k (pos by))) ≡ byte_at part k) × (low (raised by (two_bytes part k (pos by))) ≡ byte_at part (k + 1))
-two_of part all k by =
-    let n = lowered_back by (byte_at part k * 256 + byte_at part (k + 1)) in (
-      ap high n ∙ high_of (byte_at part k) (byte_at part (k + 1)) (all k) (all (k + 1)),
-      ap low n ∙ low_of (byte_at part k) (byte_at part (k + 1)) (all (k + 1)),
+two_of : (part : List ℕ) → Bytes part → (k : ℕ) (n : Reference) → (high (natural (two_bytes part k n +ℤ pos (added n))) ≡ byte_at part k) × (low (natural (two_bytes part k n +ℤ pos (added n))) ≡ byte_at part (k + 1))
+two_of part all k n =
+    let same = lowered_back (added n) (byte_at part k * 256 + byte_at part (k + 1)) in (
+      ap high same ∙ high_of (byte_at part k) (byte_at part (k + 1)) (all k) (all (k + 1)),
+      ap low same ∙ low_of (byte_at part k) (byte_at part (k + 1)) (all (k + 1)),
     )
 
-one_of : (part : List ℕ) → Bytes part → (k by : ℕ) → low (raised by (one_byte part k (pos by))) ≡ byte_at part k
-one_of part all k by = ap low (lowered_back by (byte_at part k)) ∙ kept_low (byte_at part k) (all k)
+one_of : (part : List ℕ) → Bytes part → (k : ℕ) (n : Reference) → low (natural (one_byte part k n +ℤ pos (added n))) ≡ byte_at part k
+one_of part all k n = ap low (lowered_back (added n) (byte_at part k)) ∙ kept_low (byte_at part k) (all k)
 
 -- the frame of what a part says is the part's first 19 bytes
-its_bytes : (part : List ℕ) → Bytes part → {f : Frame} → (s : Shown part f) → take 19 part ≡ frame_of (byte_at part 5) (frame_in s.set part).channel
-unfolding frame_of references_in
+its_bytes : (part : List ℕ) → Bytes part → {f : Frame} → (s : Shown part f) → take 19 part ≡ frame_of s.side (frame_in s.side s.set part).channel
+unfolding frame_of references_in raised
 its_bytes part all s =
     let m = marks part s.mark in
-    let two = and_left _ (references_sound (references_in part)) s.ranges in
-    let fd = flag_of (byte_at part 6) (and_right (leb (byte_at part 5) 1) (leb (byte_at part 6) 1) two) in
+    let side = (side_laws.named (byte_at part 5) s.side).0 s.named in
+    let fd = flag_of (byte_at part 6) (and_left (leb (byte_at part 6) 1) (references_sound (references_in part)) s.ranges) in
     let code = (decoded (byte_at part 7) s.set s.code).1 in
-    let heading = two_of part all 8 0 in
-    let vertical_speed = one_of part all 10 50 in
-    let roll = one_of part all 11 27 in
-    let pitch = one_of part all 12 20 in
-    let ias = two_of part all 13 0 in
-    let preselected = two_of part all 15 8000 in
-    let held = two_of part all 17 8000 in
+    let heading = two_of part all 8 Reference.Heading in
+    let vertical_speed = one_of part all 10 Reference.VerticalSpeed in
+    let roll = one_of part all 11 Reference.Roll in
+    let pitch = one_of part all 12 Reference.Pitch in
+    let ias = two_of part all 13 Reference.Ias in
+    let preselected = two_of part all 15 Reference.Preselected in
+    let held = two_of part all 17 Reference.Held in
     first_bytes part s.long
     ∙ (λ i.
-    m.f i ∷ m.g i ∷ m.b i ∷ m.high i ∷ m.low i ∷ byte_at part 5 ∷ sym fd i ∷ sym code i ∷ sym heading.0 i ∷ sym heading.1 i ∷ sym vertical_speed i
+    m.f i ∷ m.g i ∷ m.b i ∷ m.high i ∷ m.low i ∷ side i ∷ sym fd i ∷ sym code i ∷ sym heading.0 i ∷ sym heading.1 i ∷ sym vertical_speed i
     ∷ sym roll i ∷ sym pitch i ∷ sym ias.0 i ∷ sym ias.1 i ∷ sym preselected.0 i ∷ sym preselected.1 i ∷ sym held.0 i ∷ sym held.1 i ∷ [])
 
 pub one_frame : (part : List ℕ) → Bytes part → (f : Frame) → frame_read part ≡ Ok f → ItsFrame part f
 unfolding channel_sound
 one_frame part all f e =
     let s = shown part f e in
-    let two = and_left _ (references_sound (references_in part)) s.ranges in
+    let coherent = is_true (coherent_set s.set) (decoded (byte_at part 7) s.set s.code).0 in
+    let in_ranges = and_right (leb (byte_at part 6) 1) (references_sound (references_in part)) s.ranges in
     subst (ItsFrame part) s.frame
     (record {
-      side = leb-true (byte_at part 5) 1 (and_left (leb (byte_at part 5) 1) (leb (byte_at part 6) 1) two);
-      sound =
-          subst T (sym (and_both (coherent_set s.set) (references_sound (references_in part)) (is_true (coherent_set s.set) (decoded (byte_at part 7) s.set s.code).0)
-          (and_right (leb (byte_at part 5) 1 && leb (byte_at part 6) 1) (references_sound (references_in part)) s.ranges))) tt;
+      sound = subst T (sym (and_both (coherent_set s.set) (references_sound (references_in part)) coherent in_ranges)) tt;
       bytes = its_bytes part all s;
     })
 

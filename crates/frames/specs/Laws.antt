@@ -1,19 +1,20 @@
 -- The laws of frames. Document 02, 2026-02. `frame_laws` and `frame_examples` of `proofs/Laws.antt` prove them. That a frame is no send needs no law: a write
 -- only looks at its bench, and a read is given none.
-use Rattle.std.specs.Prelude.{◌≡◌, true, List, [], ◌∷◌, ◌++◌, ℕ, ◌+◌, ◌≤◌, ◌<◌, T, pos, negsuc, length, take, drop, get_or, Result, Ok, Err}
+use Rattle.std.specs.Prelude.{◌≡◌, true, List, [], ◌∷◌, ◌++◌, ℕ, ◌+◌, ◌<◌, T, pos, negsuc, length, take, drop, get_or, Result, Ok, Err}
 use Rattle.refusals.specs.declared.Refusal.{Refusal}
 use Rattle.refusals.specs.Refusals.{number_of_refusal}
 use Rattle.refusals.specs.Told.{told}
+use Rattle.sides.specs.declared.Side.{Side}
+use Rattle.sides.specs.Sides.{number, at}
 use Rattle.modes.specs.declared.Lateral.{Lateral}
 use Rattle.modes.specs.declared.ArmedLateral.{ArmedLateral}
 use Rattle.modes.specs.declared.Vertical.{Vertical}
 use Rattle.modes.specs.declared.ModeSet.{ModeSet}
 use Rattle.modes.specs.Every.{of_parts}
-use Rattle.bench.specs.declared.Channel.{Channel}
+use Rattle.channels.specs.declared.Channel.{Channel}
+use Rattle.channels.specs.Sound.{channel_sound}
 use Rattle.bench.specs.declared.Bench.{Bench}
-use Rattle.bench.specs.Parts.{box}
 use Rattle.bench.specs.Holds.{power_on}
-use Rattle.bench.specs.Sound.{channel_sound}
 use Rattle.frames.specs.declared.Frame.{Frame}
 use Rattle.frames.specs.Frames.{frame_of, write_verdict, area_written, frame_read, read_at, no_frame}
 
@@ -21,32 +22,32 @@ use Rattle.frames.specs.Frames.{frame_of, write_verdict, area_written, frame_rea
 abbrev pub Bytes : List ℕ → Type 0
 Bytes part = (k : ℕ) → get_or part k 0 < 256
 
-abbrev pub accepted_read : ℕ → Channel → Result Frame Refusal
-accepted_read side c = Ok (record { side = side; channel = c })
+abbrev pub accepted_read : Side → Channel → Result Frame Refusal
+accepted_read s c = Ok (record { side = s; channel = c })
 
 -- what is read is what a sound bench could hold, and the part begins with the frame that writing it makes
 pub record ItsFrame (part : List ℕ) (f : Frame) : Type 0 where
-  pub side : f.side ≤ 1
   pub sound : T (channel_sound f.channel)
   pub bytes : take 19 part ≡ frame_of f.side f.channel
 
 pub record FrameLaws : Type 0 where
-  pub long : (side : ℕ) (c : Channel) → length (frame_of side c) ≡ 19
+  pub long : (s : Side) (c : Channel) → length (frame_of s c) ≡ 19
   -- a frame, whatever follows it, is read as what it was made of
-  pub read_back : (side : ℕ) (c : Channel) (rest : List ℕ) → side ≤ 1 → T (channel_sound c) → frame_read (frame_of side c ++ rest) ≡ accepted_read side c
+  pub read_back : (s : Side) (c : Channel) (rest : List ℕ) → T (channel_sound c) → frame_read (frame_of s c ++ rest) ≡ accepted_read s c
   -- so what was written is read at its start: the side, and what the bench holds of it
-  pub write_read : (b : Bench) (side start : ℕ) (area : List ℕ) → write_verdict b side start area ≡ Ok tt → read_at start (area_written b side start area) ≡ accepted_read side (box side b)
+  pub write_read : (b : Bench) (s : Side) (start : ℕ) (area : List ℕ) → write_verdict b (number s) start area ≡ Ok tt
+      → read_at start (area_written b (number s) start area) ≡ accepted_read s (at s b.sides)
   -- an accepted read comes from exactly the frame of its answer,
   pub one_frame : (part : List ℕ) → Bytes part → (f : Frame) → frame_read part ≡ Ok f → ItsFrame part f
   -- so that the same comes from the same bytes only
   pub same_bytes : (p q : List ℕ) → Bytes p → Bytes q → (f : Frame) → frame_read p ≡ Ok f → frame_read q ≡ Ok f → take 19 p ≡ take 19 q
   -- a second write of the same changes nothing
-  pub twice : (b : Bench) (side start : ℕ) (area : List ℕ) → area_written b side start (area_written b side start area) ≡ area_written b side start area
+  pub twice : (b : Bench) (n start : ℕ) (area : List ℕ) → area_written b n start (area_written b n start area) ≡ area_written b n start area
   -- a write changes no byte before its start or behind the 19, and a refused one none at all
-  pub same_length : (b : Bench) (side start : ℕ) (area : List ℕ) → length (area_written b side start area) ≡ length area
-  pub before : (b : Bench) (side start : ℕ) (area : List ℕ) → take start (area_written b side start area) ≡ take start area
-  pub behind : (b : Bench) (side start : ℕ) (area : List ℕ) → drop (start + 19) (area_written b side start area) ≡ drop (start + 19) area
-  pub refused_write : (b : Bench) (side start : ℕ) (area : List ℕ) → (write_verdict b side start area ≡ Ok tt → ⊥) → area_written b side start area ≡ area
+  pub same_length : (b : Bench) (n start : ℕ) (area : List ℕ) → length (area_written b n start area) ≡ length area
+  pub before : (b : Bench) (n start : ℕ) (area : List ℕ) → take start (area_written b n start area) ≡ take start area
+  pub behind : (b : Bench) (n start : ℕ) (area : List ℕ) → drop (start + 19) (area_written b n start area) ≡ drop (start + 19) area
+  pub refused_write : (b : Bench) (n start : ℕ) (area : List ℕ) → (write_verdict b n start area ≡ Ok tt → ⊥) → area_written b n start area ≡ area
   -- a read looks at no byte but its 19: areas that agree there, also at different starts, are read alike
   pub local : (start start' : ℕ) (area area' : List ℕ) → take 19 (drop start area) ≡ take 19 (drop start' area') → read_at start area ≡ read_at start' area'
   -- a refused read is zeros but for its number
@@ -64,6 +65,6 @@ busy = record {
 
 pub record FrameExamples : Type 0 where
   -- the left side at power-on
-  pub start : frame_of 0 (box 0 power_on) ≡ 70 ∷ 71 ∷ 66 ∷ 0 ∷ 1 ∷ 0 ∷ 0 ∷ 0 ∷ 0 ∷ 0 ∷ 50 ∷ 27 ∷ 20 ∷ 0 ∷ 120 ∷ 31 ∷ 64 ∷ 31 ∷ 64 ∷ []
+  pub start : frame_of Side.Left power_on.sides.left ≡ 70 ∷ 71 ∷ 66 ∷ 0 ∷ 1 ∷ 0 ∷ 0 ∷ 0 ∷ 0 ∷ 0 ∷ 50 ∷ 27 ∷ 20 ∷ 0 ∷ 120 ∷ 31 ∷ 64 ∷ 31 ∷ 64 ∷ []
   -- 359 is 1, 103; 400 is 1, 144; 64,000 is 250, 0
-  pub many : frame_of 1 busy ≡ 70 ∷ 71 ∷ 66 ∷ 0 ∷ 1 ∷ 1 ∷ 1 ∷ 77 ∷ 1 ∷ 103 ∷ 0 ∷ 54 ∷ 19 ∷ 1 ∷ 144 ∷ 0 ∷ 0 ∷ 250 ∷ 0 ∷ []
+  pub many : frame_of Side.Right busy ≡ 70 ∷ 71 ∷ 66 ∷ 0 ∷ 1 ∷ 1 ∷ 1 ∷ 77 ∷ 1 ∷ 103 ∷ 0 ∷ 54 ∷ 19 ∷ 1 ∷ 144 ∷ 0 ∷ 0 ∷ 250 ∷ 0 ∷ []
