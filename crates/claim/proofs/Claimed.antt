@@ -8,23 +8,23 @@ use lib.Dec.{eqb}
 use lib.IntN.{ℤ, pos}
 use Rattle.std.specs.Prelude.{Err}
 use Rattle.refusals.specs.declared.Refusal.{Refusal}
+use Rattle.sides.specs.declared.Side.{Side}
+use Rattle.sides.specs.Sides.{number, other, side_of, at}
+use Rattle.sides.proofs.Laws.{by_side}
+use Rattle.feed.specs.Ranges.{within}
+use Rattle.channels.specs.declared.Channel.{Channel}
 use Rattle.bench.specs.declared.Bench.{Bench}
 use Rattle.bench.specs.declared.call.Call.{Call}
-use Rattle.bench.specs.declared.Channel.{Channel}
 use Rattle.bench.specs.Holds.{bench_at, power_on, start_speeds, started}
-use Rattle.bench.specs.Ranges.{within}
-use Rattle.bench.specs.Sides.{other_side, side, inbox}
 use Rattle.bench.specs.Sound.{sound}
-use Rattle.bench.proofs.Replaced.{by_side}
 use Rattle.bench.proofs.StartLaws.{at_sound, by_start}
 use Rattle.calls.specs.declared.reply.Display.{Display}
-use Rattle.calls.specs.Calls.{verdict, next, reply}
+use Rattle.calls.specs.Calls.{granted, next, reply}
 use Rattle.calls.specs.Answers.{tells}
 use Rattle.soundness.proofs.Kept.{next_sound}
 use Rattle.claim.specs.Lists.{after, transfers, refreshes, sends, pilot_from, pilot_flying, None, OffThroughout}
 use Rattle.claim.specs.Claim.{display_from, SameShown, ShowsHeld, turned_away, PassiveRule, Claim, ClaimFrom, Refused, Claims}
-use Rattle.claim.proofs.Sides.{Same, same, same_trans}
-use Rattle.claim.proofs.OneCall.{other_side_lem, step, sent_inbox, refreshed_side, unsound_next}
+use Rattle.claim.proofs.OneCall.{Same, same, same_trans, refresh_stays, step, sent_inbox, refreshed_side, unsound_next}
 use Rattle.claim.proofs.Shows.{display_refusal, display_shown, display_keeps, display_approach, shows_held, same_held}
 use Rattle.claim.proofs.Lists.{after_append, after_sound, after_refusals, after_served, after_pilot, inbox_kept, idle, off_rest, passive_kept}
 
@@ -38,45 +38,45 @@ module _ (start : Bench) (sound_start : sound start ≡ true) where
   pilot_from_lem cs = after_pilot cs start sound_start
 
   -- a display of a side after a list shows what a channel with the same set and references holds
-  shows : (cs : List Call) (s : ℕ) → s ≤ 1 → (c : Channel) → Same (side (after start cs) s) c → ShowsHeld c (display_from start cs s).value
-  shows cs s hs c e = rw (display_shown (after start cs) (sound_from cs) s hs) (shows_held (after start cs) s c e)
+  shows : (cs : List Call) (s : Side) (c : Channel) → Same (at s (after start cs).sides) c → ShowsHeld c (display_from start cs s).value
+  shows cs s c e = rw (display_shown (after start cs) (sound_from cs) s) (shows_held (after start cs) s c e)
 
   -- ---- the passive side's rule, for a side s and the calls ahead of its last refresh
 
-  module _ (s : ℕ) (hs : s ≤ 1) (pre post : List Call) (off : OffThroughout (after start pre) (Call.Refresh s ∷ post)) (passive : pilot_from start.shared.pf pre ≡ s → ⊥)
+  module _ (s : Side) (pre post : List Call) (off : OffThroughout (after start pre) (Call.Refresh (number s) ∷ post)) (passive : pilot_from start.shared.pf pre ≡ number s → ⊥)
       (last : None (refreshes s) post) (kept : None transfers post) where
     -- s shows what its inbox held at the refresh
-    shows_inbox : ShowsHeld (inbox (after start pre) s) (display_from start (pre ++ (Call.Refresh s ∷ post)) s).value
+    shows_inbox : ShowsHeld (at s (after start pre).inboxes) (display_from start (pre ++ (Call.Refresh (number s) ∷ post)) s).value
     shows_inbox =
         let b = after start pre in
         let h = sound_from pre in
-        let flown : eqb s b.shared.pf ≡ false = ne_eqb s b.shared.pf (λ e. passive (sym (pilot_from_lem pre) ∙ sym e)) in
-        let still : eqb s (next b (Call.Refresh s)).shared.pf ≡ false = ap (eqb s) (step (Call.Refresh s) b h).pf ∙ flown in
-        let holds : Same (side (after (next b (Call.Refresh s)) post) s) (inbox b s) =
-        same_trans (passive_kept s hs post (next b (Call.Refresh s)) (next_sound b (Call.Refresh s) h) off.1 still last kept) (refreshed_side s hs b h (idle s b flown off.0)) in
-        shows (pre ++ (Call.Refresh s ∷ post)) s hs (inbox b s) (rw (after_append pre (Call.Refresh s ∷ post) start) holds)
+        let flown : eqb (number s) b.shared.pf ≡ false = ne_eqb (number s) b.shared.pf (λ e. passive (sym (pilot_from_lem pre) ∙ sym e)) in
+        let still : eqb (number s) (next b (Call.Refresh (number s))).shared.pf ≡ false = rw ((step (Call.Refresh (number s)) b h).pf, refresh_stays (side_of (number s))) flown in
+        let holds : Same (at s (after (next b (Call.Refresh (number s))) post).sides) (at s b.inboxes) =
+        same_trans (passive_kept s post (next b (Call.Refresh (number s))) (next_sound b (Call.Refresh (number s)) h) off.1 still last kept) (refreshed_side s b h (idle s b flown off.0)) in
+        shows (pre ++ (Call.Refresh (number s) ∷ post)) s (at s b.inboxes) (rw (after_append pre (Call.Refresh (number s) ∷ post) start) holds)
 
   -- what the inbox holds: what the other side held just before its last send
-  inbox_sent : (s : ℕ) → s ≤ 1 → (ahead later : List Call) → None (sends (other_side s)) later
-      → inbox (after start (ahead ++ (Call.Send (other_side s) ∷ later))) s ≡ side (after start ahead) (other_side s)
-  inbox_sent s hs ahead later n =
+  inbox_sent : (s : Side) (ahead later : List Call) → None (sends (other s)) later
+      → at s (after start (ahead ++ (Call.Send (number (other s)) ∷ later))).inboxes ≡ at (other s) (after start ahead).sides
+  inbox_sent s ahead later n =
       let b = after start ahead in
       let h = sound_from ahead in
-      rw (after_append ahead (Call.Send (other_side s) ∷ later) start)
-      (inbox_kept s hs later (next b (Call.Send (other_side s))) (next_sound b (Call.Send (other_side s)) h) n ∙ sent_inbox s hs b h)
+      rw (after_append ahead (Call.Send (number (other s)) ∷ later) start)
+      (inbox_kept s later (next b (Call.Send (number (other s)))) (next_sound b (Call.Send (number (other s))) h) n ∙ sent_inbox s b h)
 
   -- the rule for a split of a list, with what an unsent side shows told by the inbox at the start
-  passive_from : (cs : List Call) (s : ℕ) → s ≤ 1 → (pre post : List Call) → cs ≡ pre ++ (Call.Refresh s ∷ post) → OffThroughout (after start pre) (Call.Refresh s ∷ post)
-      → PassiveRule start (pilot_from start.shared.pf) (λ s d. ShowsHeld (inbox start s) d) s pre post (display_from start cs s).value
-  passive_from cs s hs pre post e o p r t =
-      let d = (display_from start (pre ++ (Call.Refresh s ∷ post)) s).value in
-      let now-held = shows_inbox s hs pre post o p r t in
+  passive_from : (cs : List Call) (s : Side) (pre post : List Call) → cs ≡ pre ++ (Call.Refresh (number s) ∷ post) → OffThroughout (after start pre) (Call.Refresh (number s) ∷ post)
+      → PassiveRule start (pilot_from start.shared.pf) (λ s d. ShowsHeld (at s start.inboxes) d) s pre post (display_from start cs s).value
+  passive_from cs s pre post e o p r t =
+      let d = (display_from start (pre ++ (Call.Refresh (number s) ∷ post)) s).value in
+      let now-held = shows_inbox s pre post o p r t in
       rw e
       (record {
         sent = λ ahead later k n.
-            same_held (inbox (after start pre) s) d _ now-held
-            (shows ahead (other_side s) (other_side_lem s) (inbox (after start pre) s) (same (sym (rw k (inbox_sent s hs ahead later n)))));
-        unsent = λ n. rw (inbox_kept s hs pre start sound_start n) at now-held;
+            same_held (at s (after start pre).inboxes) d _ now-held
+            (shows ahead (other s) (at s (after start pre).inboxes) (same (sym (rw k (inbox_sent s ahead later n)))));
+        unsent = λ n. rw (inbox_kept s pre start sound_start n) at now-held;
       })
 
   pub claim_from : (cs : List Call) → ClaimFrom start cs
@@ -84,11 +84,11 @@ module _ (start : Bench) (sound_start : sound start ≡ true) where
     served = after_served cs start sound_start;
     refusals = after_refusals cs start sound_start;
     pilot_side = pilot_from_lem cs;
-    shown = λ s hs. display_refusal (after start cs) (sound_from cs) s hs;
-    keeps = λ s hs. display_keeps (after start cs) (sound_from cs) s hs;
-    both_on_approach = λ on s hs. display_approach (after start cs) (sound_from cs) s hs on;
+    shown = λ s. display_refusal (after start cs) (sound_from cs) s;
+    keeps = λ s. display_keeps (after start cs) (sound_from cs) s;
+    both_on_approach = λ on s. display_approach (after start cs) (sound_from cs) s on;
     passive = passive_from cs;
-    passive_as_ever = λ o s hs pre post e. passive_from cs s hs pre post e (off_rest pre (Call.Refresh s ∷ post) start (rw e at o));
+    passive_as_ever = λ o s pre post e. passive_from cs s pre post e (off_rest pre (Call.Refresh (number s) ∷ post) start (rw e at o));
   }
 
 -- ---- from a start
@@ -102,21 +102,21 @@ module _ (n : ℕ) (accepted : within start_speeds (pos n) ≡ true) where
   sound_start = at_sound n accepted
 
   -- an inbox holds what the other side does
-  inbox_start : (s : ℕ) → s ≤ 1 → inbox start s ≡ side start (other_side s)
+  inbox_start : (s : Side) → at s start.inboxes ≡ at (other s) start.sides
   unfolding bench_at
-  inbox_start s hs = by_side (λ (s : ℕ). inbox start s ≡ side start (other_side s)) refl refl s hs
+  inbox_start s = by_side (λ s. at s start.inboxes ≡ at (other s) start.sides) refl refl s
 
   -- so that the rule is the one told by the other side's display at the start
-  of_start : (s : ℕ) → s ≤ 1 → (pre post : List Call) (d : Display)
-      → PassiveRule start pilot_flying (λ s d. ShowsHeld (inbox start s) d) s pre post d
-      → PassiveRule start pilot_flying (λ s d. SameShown d (display_from start [] (other_side s)).value) s pre post d
-  of_start s hs pre post d rule p r t =
+  of_start : (s : Side) (pre post : List Call) (d : Display)
+      → PassiveRule start pilot_flying (λ s d. ShowsHeld (at s start.inboxes) d) s pre post d
+      → PassiveRule start pilot_flying (λ s d. SameShown d (display_from start [] (other s)).value) s pre post d
+  of_start s pre post d rule p r t =
       let shown = rule p r t in
       record {
         sent = shown.sent;
         unsent = λ n.
-            same_held (inbox start s) _ _ (shown.unsent n)
-            (shows start sound_start [] (other_side s) (other_side_lem s) (inbox start s) (same (sym (inbox_start s hs))));
+            same_held (at s start.inboxes) _ _ (shown.unsent n)
+            (shows start sound_start [] (other s) (at s start.inboxes) (same (sym (inbox_start s))));
       }
 
   claim_at : (cs : List Call) → Claim start cs
@@ -130,8 +130,8 @@ module _ (n : ℕ) (accepted : within start_speeds (pos n) ≡ true) where
         shown = k.shown;
         keeps = k.keeps;
         both_on_approach = k.both_on_approach;
-        passive = λ s hs pre post e o. of_start s hs pre post _ (k.passive s hs pre post e o);
-        passive_as_ever = λ o s hs pre post e. of_start s hs pre post _ (k.passive_as_ever o s hs pre post e);
+        passive = λ s pre post e o. of_start s pre post _ (k.passive s pre post e o);
+        passive_as_ever = λ o s pre post e. of_start s pre post _ (k.passive_as_ever o s pre post e);
       }
 
 -- and so of every start
@@ -145,12 +145,12 @@ claim_power_on = claim (pos 120)
 -- ---- from an unsound bench
 
 unsound_reply : (b : Bench) (c : Call) → sound b ≡ false → reply b c ≡ Err Refusal.UnsoundBench
-unfolding verdict
+unfolding granted
 unsound_reply b c h = rw h
 
 -- and that tells 1, with what stands beside a refusal
 unsound_tells : (b : Bench) (c : Call) → sound b ≡ false → tells b c ≡ turned_away c
-unfolding verdict
+unfolding granted
 unsound_tells b (Call.Event word) h = rw h
 unsound_tells b (Call.Turn knob n) h = rw h
 unsound_tells b (Call.Reading r) h = rw h

@@ -1,7 +1,6 @@
 pub mod Computing
 pub mod Sheet
 pub mod Reached
-pub mod Sides
 pub mod OneCall
 pub mod Shows
 pub mod Lists

@@ -6,17 +6,18 @@ use Prim.Native.Nat.{ℕ, ◌≤◌}
 use lib.Dec.{eqb}
 use Rattle.refusals.specs.declared.Told.{Told}
 use Rattle.refusals.specs.Refusals.{refusal_number}
+use Rattle.sides.specs.declared.Side.{Side}
+use Rattle.sides.specs.Sides.{number, other, at}
 use Rattle.bench.specs.declared.Bench.{Bench}
 use Rattle.bench.specs.declared.call.Call.{Call}
-use Rattle.bench.specs.Sides.{other_side, side, inbox, acts}
+use Rattle.bench.specs.Acting.{acts}
 use Rattle.bench.specs.Sound.{sound}
 use Rattle.calls.specs.declared.reply.Reply.{Reply}
-use Rattle.calls.specs.Calls.{own_verdict, next}
+use Rattle.calls.specs.Calls.{asked, next}
 use Rattle.soundness.proofs.Kept.{next_sound}
 use Rattle.claim.specs.Lists.{after, all_told, transfers, refreshes, sends, asks_independent, pilot_from, None, OffThroughout}
 use Rattle.claim.specs.Claim.{Served}
-use Rattle.claim.proofs.Sides.{Same, same, same_trans}
-use Rattle.claim.proofs.OneCall.{own_refusal, own_not_1, step}
+use Rattle.claim.proofs.OneCall.{Same, same, same_trans, own_refusal, own_not_1, step}
 
 pub after_append : (pre post : List Call) (b : Bench) → after b (pre ++ post) ≡ after (after b pre) post
 after_append [] post b = refl
@@ -26,7 +27,7 @@ pub after_sound : (cs : List Call) (b : Bench) → sound b ≡ true → sound (a
 after_sound [] b h = h
 after_sound (c ∷ cs) b h = after_sound cs (next b c) (next_sound b c h)
 
-pub after_refusals : (cs : List Call) (b : Bench) → sound b ≡ true → map (λ (t : Told Reply). t.refusal) (all_told b cs) ≡ map (λ (c : Call). refusal_number (own_verdict c)) cs
+pub after_refusals : (cs : List Call) (b : Bench) → sound b ≡ true → map (λ (t : Told Reply). t.refusal) (all_told b cs) ≡ map (λ (c : Call). refusal_number (asked c)) cs
 after_refusals [] b h = refl
 after_refusals (c ∷ cs) b h = cc (own_refusal b c h, after_refusals cs (next b c) (next_sound b c h))
 
@@ -40,12 +41,12 @@ after_pilot [] b h = refl
 after_pilot (c ∷ cs) b h = after_pilot cs (next b c) (next_sound b c h) ∙ ap (λ (p : ℕ). pilot_from p cs) (step c b h).pf
 
 -- an inbox is kept while the other side sends nothing
-pub inbox_kept : (s : ℕ) → s ≤ 1 → (cs : List Call) (b : Bench) → sound b ≡ true → None (sends (other_side s)) cs → inbox (after b cs) s ≡ inbox b s
-inbox_kept s hs [] b h n = refl
-inbox_kept s hs (c ∷ cs) b h n = inbox_kept s hs cs (next b c) (next_sound b c h) n.1 ∙ (step c b h).inboxes s hs n.0
+pub inbox_kept : (s : Side) (cs : List Call) (b : Bench) → sound b ≡ true → None (sends (other s)) cs → at s (after b cs).inboxes ≡ at s b.inboxes
+inbox_kept s [] b h n = refl
+inbox_kept s (c ∷ cs) b h n = inbox_kept s cs (next b c) (next_sound b c h) n.1 ∙ (step c b h).inboxes s n.0
 
 -- with independent operation off, a side that has not PF does not act
-pub idle : (s : ℕ) (b : Bench) → eqb s b.shared.pf ≡ false → b.shared.independent ≡ false → acts b s ≡ false
+pub idle : (s : Side) (b : Bench) → eqb (number s) b.shared.pf ≡ false → b.shared.independent ≡ false → acts b s ≡ false
 unfolding acts
 idle s b p o = rw (p, o)
 
@@ -55,13 +56,13 @@ off_rest [] post b o = o
 off_rest (c ∷ pre) post b o = off_rest pre post (next b c) o.1
 
 -- a side that has not PF keeps set and references while independent operation is off, it has no refresh and nobody transfers
-pub passive_kept : (s : ℕ) → s ≤ 1 → (cs : List Call) (b : Bench) → sound b ≡ true → OffThroughout b cs → eqb s b.shared.pf ≡ false
-    → None (refreshes s) cs → None transfers cs → Same (side (after b cs) s) (side b s)
-passive_kept s hs [] b h o p r t = same refl
-passive_kept s hs (c ∷ cs) b h o p r t =
+pub passive_kept : (s : Side) (cs : List Call) (b : Bench) → sound b ≡ true → OffThroughout b cs → eqb (number s) b.shared.pf ≡ false
+    → None (refreshes s) cs → None transfers cs → Same (at s (after b cs).sides) (at s b.sides)
+passive_kept s [] b h o p r t = same refl
+passive_kept s (c ∷ cs) b h o p r t =
     let one = step c b h in
-    let still : eqb s (next b c).shared.pf ≡ false = rw (one.pf, t.0) p in
-    same_trans (passive_kept s hs cs (next b c) (next_sound b c h) o.1 still r.1 t.1) (one.passive s hs (idle s b p o.0) r.0 t.0)
+    let still : eqb (number s) (next b c).shared.pf ≡ false = rw (one.pf, t.0) p in
+    same_trans (passive_kept s cs (next b c) (next_sound b c h) o.1 still r.1 t.1) (one.passive s (idle s b p o.0) r.0 t.0)
 
 -- a list without the switch of independent operation never has it on
 pub never_on : (cs : List Call) (b : Bench) → sound b ≡ true → b.shared.independent ≡ false → None asks_independent cs → OffThroughout b cs

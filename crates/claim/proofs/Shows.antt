@@ -8,6 +8,10 @@ use lib.Dec.{T, eqb}
 use lib.Ieee.Bits.{is_true}
 use Rattle.std.specs.Prelude.{Ok}
 use Rattle.refusals.specs.Told.{told}
+use Rattle.refusals.proofs.Choices.{and_left, and_right}
+use Rattle.sides.specs.declared.Side.{Side}
+use Rattle.sides.specs.Sides.{number, at}
+use Rattle.sides.proofs.Laws.{by_side, of_both}
 use Rattle.modes.specs.declared.Modes.{Modes}
 use Rattle.modes.specs.declared.ModeSet.{ModeSet}
 use Rattle.modes.specs.Every.{every_modes}
@@ -15,21 +19,18 @@ use Rattle.modes.proofs.Every.{at_modes}
 use Rattle.modes.proofs.Joins.{approach_shown}
 use Rattle.modes.specs.Sets.{implies, engaged, armed, cleared, once, coherent, coherent_set, approach_engaged, is_off}
 use Rattle.modes.specs.Numbers.{lateral_number, vertical_number, lateral_law, vertical_law, armed_sum}
-use Rattle.bench.specs.declared.References.{References}
-use Rattle.bench.specs.declared.Channel.{Channel}
+use Rattle.channels.specs.declared.Channel.{Channel}
+use Rattle.channels.specs.declared.references.References.{References}
 use Rattle.bench.specs.declared.Bench.{Bench}
-use Rattle.bench.specs.Sides.{side}
 use Rattle.bench.specs.Sound.{sound}
-use Rattle.bench.proofs.Replaced.{by_side}
 use Rattle.calls.specs.declared.reply.Display.{Display}
 use Rattle.calls.specs.Displays.{shown, blank}
-use Rattle.calls.specs.Calls.{verdict, display_answer}
+use Rattle.calls.specs.Calls.{display_answer}
 use Rattle.soundness.proofs.Kept.{on_laws}
 use Rattle.bench.specs.Independent.{both_approach, independent_sound}
-use Rattle.bench.proofs.SoundParts.{and_left, and_right, parts, independent_part}
+use Rattle.bench.proofs.SoundParts.{parts, independent_part}
 use Rattle.claim.specs.Claim.{Keeps, SameShown, ShowsHeld}
-use Rattle.claim.proofs.Sides.{Same}
-use Rattle.claim.proofs.OneCall.{side_accepted}
+use Rattle.claim.proofs.OneCall.{Same, side_named}
 
 -- ---- the numbers of an On set
 
@@ -83,38 +84,34 @@ keeps_set (ModeSet.On m) fd r n h = record {
 
 -- ---- the display of a sound bench
 
-module _ (b : Bench) (h : sound b ≡ true) (s : ℕ) (hs : s ≤ 1) where
-  pub display_shown : display_answer b s ≡ Ok (shown b s)
-  unfolding verdict
-  display_shown = rw (h, side_accepted s hs)
+module _ (b : Bench) (h : sound b ≡ true) (s : Side) where
+  pub display_shown : display_answer b (number s) ≡ Ok (shown b s)
+  display_shown = rw (h, side_named s)
 
-  pub display_refusal : (told blank (display_answer b s)).refusal ≡ 0
+  pub display_refusal : (told blank (display_answer b (number s))).refusal ≡ 0
   display_refusal = rw display_shown
 
-  side_coherent : coherent_set (side b s).set ≡ true
-  side_coherent = by_side (λ (s : ℕ). coherent_set (side b s).set ≡ true) (parts b h).left.set (parts b h).right.set s hs
-
-  pub display_keeps : Keeps (not (is_off (side b s).set)) (told blank (display_answer b s)).value
+  pub display_keeps : Keeps (not (is_off (at s b.sides).set)) (told blank (display_answer b (number s))).value
   unfolding shown
-  display_keeps = rw display_shown (keeps_set (side b s).set _ _ _ side_coherent)
+  display_keeps = rw display_shown (keeps_set (at s b.sides).set _ _ _ (of_both (parts b h).sides s).set)
 
 -- with independent operation on, a side shows laws 4 and 7
 approach_laws : (set : ModeSet) → approach_engaged set ≡ true → (lateral_law set ≡ 4) × (vertical_law set ≡ 7)
 approach_laws set h = let k = approach_shown set ∙ h in (eqb-true _ 4 (and_left _ _ k), eqb-true _ 7 (and_right (eqb (lateral_law set) 4) _ k))
 
-pub side_approach : (b : Bench) → sound b ≡ true → b.shared.independent ≡ true → (s : ℕ) → s ≤ 1 → approach_engaged (side b s).set ≡ true
+pub side_approach : (b : Bench) → sound b ≡ true → b.shared.independent ≡ true → (s : Side) → approach_engaged (at s b.sides).set ≡ true
 unfolding independent_sound both_approach
-side_approach b h on s hs =
-    let both : (approach_engaged (side b 0).set && approach_engaged (side b 1).set) ≡ true = rw on at (independent_part b h) in
-    by_side (λ (s : ℕ). approach_engaged (side b s).set ≡ true) (and_left _ (approach_engaged (side b 1).set) both) (and_right (approach_engaged (side b 0).set) _ both) s hs
+side_approach b h on s =
+    let both : (approach_engaged b.sides.left.set && approach_engaged b.sides.right.set) ≡ true = rw on at (independent_part b h) in
+    by_side (λ s. approach_engaged (at s b.sides).set ≡ true) (and_left _ _ both) (and_right (approach_engaged b.sides.left.set) _ both) s
 
-pub display_approach : (b : Bench) → sound b ≡ true → (s : ℕ) → s ≤ 1 → b.shared.independent ≡ true
-    → ((told blank (display_answer b s)).value.lateral ≡ 4) × ((told blank (display_answer b s)).value.vertical ≡ 7)
+pub display_approach : (b : Bench) → sound b ≡ true → (s : Side) → b.shared.independent ≡ true
+    → ((told blank (display_answer b (number s))).value.lateral ≡ 4) × ((told blank (display_answer b (number s))).value.vertical ≡ 7)
 unfolding shown
-display_approach b h s hs on = rw (display_shown b h s hs) (approach_laws (side b s).set (side_approach b h on s hs))
+display_approach b h s on = rw (display_shown b h s) (approach_laws (at s b.sides).set (side_approach b h on s))
 
 -- a side shows what a channel with the same set and references holds
-pub shows_held : (x : Bench) (s : ℕ) (c : Channel) → Same (side x s) c → ShowsHeld c (shown x s)
+pub shows_held : (x : Bench) (s : Side) (c : Channel) → Same (at s x.sides) c → ShowsHeld c (shown x s)
 unfolding shown
 shows_held x s c e = record { lateral = ap lateral_law e.set; vertical = ap vertical_law e.set; armed = ap armed_sum e.set; references = e.references }
 

@@ -1,14 +1,15 @@
 -- Lists of calls from a bench, by the rules, and document 01's words about them. Document 01, 'The claim over a list of calls'.
 -- The words are defined from the calls alone: no bench is asked. What is said of independent operation (document 02, 2026-03) goes by the rules' bench.
-use Rattle.std.specs.Prelude.{◌≡◌, Bool, false, ◌&&◌, cond, List, [], ◌∷◌, ℕ, eqb, Result, is_ok}
-use Rattle.std.specs.Int.Count.{count_trailing_zeros}
+use Rattle.std.specs.Prelude.{◌≡◌, Bool, true, false, cond, List, [], ◌∷◌, ℕ, eqb, Result, Ok, Err}
 use Rattle.refusals.specs.declared.Refusal.{Refusal}
 use Rattle.refusals.specs.declared.Told.{Told}
+use Rattle.sides.specs.declared.Side.{Side}
+use Rattle.sides.specs.Sides.{number}
 use Rattle.bench.specs.declared.Bench.{Bench}
 use Rattle.bench.specs.declared.call.Call.{Call}
-use Rattle.bench.specs.Sides.{other_side}
+use Rattle.bench.specs.Acting.{other_side}
 use Rattle.calls.specs.declared.reply.Reply.{Reply}
-use Rattle.calls.specs.Calls.{own_verdict, next, reply}
+use Rattle.calls.specs.Calls.{Deed, act, turn, keep, send, refresh, show, asked, next, reply}
 use Rattle.calls.specs.Answers.{tells}
 
 -- ---- a list of calls by the rules: the bench is handed on from call to call
@@ -29,43 +30,53 @@ all_told b (c ∷ cs) = tells b c ∷ all_told (next b c) cs
 
 -- ---- document 01's words, from the calls alone
 
--- accepted: the call's own arguments give it no refusal. Refusal 1 goes by the bench, and from a sound start it never comes: this is a part of the claim
-abbrev pub accepted : Call → Bool
-accepted c = is_ok (own_verdict c)
+-- the call is accepted, and what it asks for is p: its own arguments give it no refusal. Refusal 1 goes by the bench, and from a sound start it never comes: this is a part of the claim
+abbrev pub accepted_for : (Deed → Bool) → Result Deed Refusal → Bool
+accepted_for p (Ok d) = p d
+accepted_for p (Err refusal) = false
 
--- accepted, and acting on event e: a word whose lowest set bit is e
-abbrev pub acts_on : ℕ → Call → Bool
-acts_on e (Call.Event word) = accepted (Call.Event word) && eqb (count_trailing_zeros 32 word) e
-acts_on e (Call.Turn knob n) = false
-acts_on e (Call.Reading r) = false
-acts_on e (Call.Send t) = false
-acts_on e (Call.Refresh t) = false
-acts_on e (Call.Display t) = false
+abbrev pub asks : (Deed → Bool) → Call → Bool
+asks p c = accepted_for p (asked c)
+
+-- acting on event e: a word whose lowest set bit is e
+abbrev pub is_act : ℕ → Deed → Bool
+is_act e (act n) = eqb n e
+is_act e (turn k n) = false
+is_act e (keep r z) = false
+is_act e (send t) = false
+is_act e (refresh t) = false
+is_act e (show t) = false
+
+abbrev pub is_send : Side → Deed → Bool
+is_send s (act n) = false
+is_send s (turn k n) = false
+is_send s (keep r z) = false
+is_send s (send t) = eqb (number t) (number s)
+is_send s (refresh t) = false
+is_send s (show t) = false
+
+abbrev pub is_refresh : Side → Deed → Bool
+is_refresh s (act n) = false
+is_refresh s (turn k n) = false
+is_refresh s (keep r z) = false
+is_refresh s (send t) = false
+is_refresh s (refresh t) = eqb (number t) (number s)
+is_refresh s (show t) = false
 
 abbrev pub transfers : Call → Bool
-transfers c = acts_on 5 c
+transfers c = asks (is_act 5) c
 
 -- the switch of independent operation (document 02, 2026-03)
 abbrev pub asks_independent : Call → Bool
-asks_independent c = acts_on 20 c
+asks_independent c = asks (is_act 20) c
 
 -- accepted, and a refresh of side s
-abbrev pub refreshes : ℕ → Call → Bool
-refreshes s (Call.Event word) = false
-refreshes s (Call.Turn knob n) = false
-refreshes s (Call.Reading r) = false
-refreshes s (Call.Send t) = false
-refreshes s (Call.Refresh t) = accepted (Call.Refresh t) && eqb t s
-refreshes s (Call.Display t) = false
+abbrev pub refreshes : Side → Call → Bool
+refreshes s c = asks (is_refresh s) c
 
 -- accepted, and a send of side s
-abbrev pub sends : ℕ → Call → Bool
-sends s (Call.Event word) = false
-sends s (Call.Turn knob n) = false
-sends s (Call.Reading r) = false
-sends s (Call.Send t) = accepted (Call.Send t) && eqb t s
-sends s (Call.Refresh t) = false
-sends s (Call.Display t) = false
+abbrev pub sends : Side → Call → Bool
+sends s c = asks (is_send s) c
 
 -- the pilot flying's side after a list that began with side p, moved by each transfer
 abbrev pub pilot_from : ℕ → List Call → ℕ

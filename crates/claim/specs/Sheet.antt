@@ -6,11 +6,13 @@ use Rattle.std.specs.Float.Ieee.{of_bits}
 use Rattle.refusals.specs.declared.Told.{Told}
 use Rattle.rounding.specs.Whole.{whole_of}
 use Rattle.rotation.specs.Rotation.{rotation_of}
-use Rattle.bench.specs.declared.References.{References}
-use Rattle.bench.specs.declared.Reading.{Reading}
+use Rattle.sides.specs.declared.Side.{Side}
+use Rattle.sides.specs.Sides.{number}
+use Rattle.feed.specs.declared.Reading.{Reading}
+use Rattle.feed.specs.Readings.{whole_reading}
+use Rattle.channels.specs.declared.references.References.{References}
 use Rattle.bench.specs.declared.call.Call.{Call}
 use Rattle.bench.specs.Holds.{power_on}
-use Rattle.bench.specs.Readings.{whole_reading}
 use Rattle.calls.specs.declared.reply.Display.{Display}
 use Rattle.calls.specs.declared.reply.Reply.{Reply}
 use Rattle.claim.specs.Lists.{after, all_told}
@@ -22,11 +24,11 @@ use Rattle.claim.specs.Claim.{display_after}
 abbrev pub bits : ℕ → Float
 bits n = of_bits binary64 n
 
-abbrev pub on_left : ℕ
-on_left = 0
+abbrev pub on_left : Side
+on_left = Side.Left
 
-abbrev pub on_right : ℕ
-on_right = 1
+abbrev pub on_right : Side
+on_right = Side.Right
 
 -- what a reading tells: its refusal
 abbrev pub done : ℕ → Told Reply
@@ -37,14 +39,14 @@ abbrev pub event : ℕ → ℕ → Told Reply
 event refusal number = record { refusal = refusal; value = Reply.Event number }
 
 -- what a display of a side shows after a list of calls from power-on
-abbrev pub shown_by : List Call → ℕ → Display
+abbrev pub shown_by : List Call → Side → Display
 shown_by cs s = (display_after cs s).value
 
 -- its lateral and vertical law
-abbrev pub laws : List Call → ℕ → ℕ × ℕ
+abbrev pub laws : List Call → Side → ℕ × ℕ
 laws cs s = ((shown_by cs s).lateral, (shown_by cs s).vertical)
 
-abbrev pub references_of : List Call → ℕ → References
+abbrev pub references_of : List Call → Side → References
 references_of cs s = (shown_by cs s).references
 
 abbrev pub heading_left : List Call → ℤ
@@ -106,14 +108,14 @@ ten = Call.Event 0 ∷ Call.Event 2097152 ∷ []
 
 -- 11: six, and then a send and a refresh
 abbrev pub eleven : List Call
-eleven = six ++ (Call.Send on_left ∷ Call.Refresh on_right ∷ [])
+eleven = six ++ (Call.Send (number on_left) ∷ Call.Refresh (number on_right) ∷ [])
 
 -- 12: eleven and a transfer, and then a refresh too
 abbrev pub twelve₁ : List Call
 twelve₁ = eleven ++ (Call.Event 32 ∷ [])
 
 abbrev pub twelve₂ : List Call
-twelve₂ = twelve₁ ++ (Call.Refresh on_left ∷ [])
+twelve₂ = twelve₁ ++ (Call.Refresh (number on_left) ∷ [])
 
 -- ---- the claim
 
