@@ -65,7 +65,7 @@ impl Session {
         ensures { result ≡ beginning }
     {
         Session {
-            bench: bench::power_on(),
+            bench: bench::starts::power_on(),
             lines: 0,
             line: ArrayVec::new(),
             watch: false,
