@@ -106,7 +106,7 @@ turn_of text = if_some (knob_at text) (λ knob. if_some (number_at text 2 255) (
 
 -- one of the four knobs
 abbrev pub one_knob : Option ℕ → Option Knob
-one_knob n = option_and_then (λ n. result_ok (knob_of n)) n
+one_knob x = option_and_then (λ n. result_ok (knob_of n)) x
 
 -- knob KNOB CLICKS, of one of the four knobs; the clicks are kept modulo 256
 unfoldable pub clicks_of : List ℕ → Asked
