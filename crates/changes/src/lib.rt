@@ -1,16 +1,16 @@
-// What each event does to an On set. The paper's rules are in modes/specs/Events.antt; here they go
-// by the modes that are engaged and by what is armed.
+// What events do to an On set. Which event makes which change stands in the events' table, in crate `events`; the paper's
+// rules are in modes/specs/Events.antt. Here they go by the modes that are engaged and by what is armed.
 #![tactic(auto)]
 
 ghost use Rattle.std.specs.Prelude.{◌≡◌, cond};
 ghost use Rattle.modes.specs.declared.ArmedLateral.{ArmedLateral};
 ghost use Rattle.modes.specs.Sets.{PITCH, NAV, LAPPR, HDG, VS, ALT, ALTSEL, VAPPR, clear, engage};
-ghost use Rattle.modes.specs.Events.{line_of, overspeed, capture, capture_vappr, track, switch, switch_nav, switch_appr, switch_flc};
+ghost use Rattle.modes.specs.Events.{overspeed, go_around, take_basic, clear_navigation, capture, capture_vappr, track, switch, switch_nav, switch_appr, switch_flc};
 ghost use Rattle.changes.specs.Private.{to_lateral, to_vertical};
 
 use modes::numbers::{arms_lappr, arms_nav};
 use modes::sets::basic_modes;
-use modes::{ArmedLateral, Event, Lateral, Modes, Vertical};
+use modes::{ArmedLateral, Lateral, Modes, Vertical};
 
 // The armed lateral mode, and none where its arming ends.
 fn armed_unless(ends: bool, a: ArmedLateral) -> ArmedLateral
@@ -107,14 +107,15 @@ fn to_vertical(m: Modes, v: Vertical) -> Modes
 }
 
 // PITCH engages: what a turned knob can ask for.
+#[tactic(auto, using(crate::proofs::Joins::pitch_engaged))]
 pub fn engage_pitch(m: Modes) -> Modes
     ensures { result ≡ engage PITCH m }
 {
     to_vertical(m, Vertical::Pitch)
 }
 
-// 2: FLC, unless ALT or ALTSEL is engaged or the flag was set already.
-fn overspeed_begins(flag: bool, m: Modes) -> Modes
+// FLC, unless ALT or ALTSEL is engaged or the flag was set already.
+pub fn overspeed(flag: bool, m: Modes) -> Modes
     ensures { result ≡ overspeed flag m }
 {
     let engaged = m.vertical;
@@ -125,8 +126,32 @@ fn overspeed_begins(flag: bool, m: Modes) -> Modes
     }
 }
 
-// 9
-fn nav_captured(m: Modes) -> Modes
+// LGA and VGA, over whatever is engaged.
+#[tactic(auto, using(crate::proofs::Joins::gone_around))]
+pub fn go_around(m: Modes) -> Modes
+    ensures { result ≡ go_around m }
+{
+    to_vertical(to_lateral(m, Lateral::Lga), Vertical::Vga)
+}
+
+// ROLL and PITCH, whatever was engaged, and what was armed is cleared.
+#[tactic(auto, using(crate::proofs::Joins::basic_taken))]
+pub fn take_basic(m: Modes) -> Modes
+    ensures { result ≡ take_basic m }
+{
+    basic_modes()
+}
+
+// NAV and the approach, engaged or armed, are cleared.
+#[tactic(auto, using(crate::proofs::Joins::navigation_cleared))]
+pub fn clear_navigation(m: Modes) -> Modes
+    ensures { result ≡ clear_navigation m }
+{
+    clear_lappr(clear_nav(m))
+}
+
+// An armed NAV engages.
+pub fn capture_nav(m: Modes) -> Modes
     ensures { result ≡ capture NAV m }
 {
     if arms_nav(m.armed) {
@@ -139,8 +164,8 @@ fn nav_captured(m: Modes) -> Modes
     }
 }
 
-// 10: the approach goes on, so VAPPR stays as it is.
-fn lappr_captured(m: Modes) -> Modes
+// An armed LAPPR engages. The approach goes on, so VAPPR stays as it is.
+pub fn capture_lappr(m: Modes) -> Modes
     ensures { result ≡ capture LAPPR m }
 {
     if arms_lappr(m.armed) {
@@ -154,8 +179,8 @@ fn lappr_captured(m: Modes) -> Modes
     }
 }
 
-// 11: VAPPR that is armed beside an engaged LAPPR.
-fn vappr_captured(flag: bool, m: Modes) -> Modes
+// A VAPPR that is armed beside an engaged LAPPR engages, unless the flag is set.
+pub fn capture_vappr(flag: bool, m: Modes) -> Modes
     ensures { result ≡ capture_vappr flag m }
 {
     let engaged = m.lateral;
@@ -169,8 +194,8 @@ fn vappr_captured(flag: bool, m: Modes) -> Modes
     }
 }
 
-// 12: ALTSEL is armed beside four of the vertical modes.
-fn altsel_captured(m: Modes) -> Modes
+// ALTSEL, which is armed beside four of the vertical modes, engages in capture.
+pub fn capture_altsel(m: Modes) -> Modes
     ensures { result ≡ capture ALTSEL m }
 {
     let engaged = m.vertical;
@@ -185,8 +210,8 @@ fn altsel_captured(m: Modes) -> Modes
     }
 }
 
-// 13
-fn altsel_on_track(m: Modes) -> Modes
+// ALTSEL goes on from capture to track.
+pub fn track(m: Modes) -> Modes
     ensures { result ≡ track m }
 {
     let engaged = m.vertical;
@@ -199,8 +224,8 @@ fn altsel_on_track(m: Modes) -> Modes
     }
 }
 
-// 14
-fn hdg_switch(m: Modes) -> Modes
+// HDG engages, or gives way to ROLL.
+pub fn switch_hdg(m: Modes) -> Modes
     ensures { result ≡ switch HDG m }
 {
     let engaged = m.lateral;
@@ -213,8 +238,8 @@ fn hdg_switch(m: Modes) -> Modes
     }
 }
 
-// 15: NAV, engaged or armed, is cleared; else it is armed, in place of LAPPR.
-fn nav_switch(m: Modes) -> Modes
+// NAV, engaged or armed, is cleared; else it is armed, in place of LAPPR.
+pub fn switch_nav(m: Modes) -> Modes
     ensures { result ≡ switch_nav m }
 {
     let engaged = m.lateral;
@@ -232,8 +257,8 @@ fn nav_switch(m: Modes) -> Modes
     }
 }
 
-// 16: LAPPR, engaged or armed, is cleared; else it and VAPPR are armed.
-fn appr_switch(m: Modes) -> Modes
+// LAPPR, engaged or armed, is cleared; else it and VAPPR are armed.
+pub fn switch_appr(m: Modes) -> Modes
     ensures { result ≡ switch_appr m }
 {
     let engaged = m.lateral;
@@ -248,8 +273,8 @@ fn appr_switch(m: Modes) -> Modes
     }
 }
 
-// 17
-fn vs_switch(m: Modes) -> Modes
+// VS engages, or gives way to PITCH.
+pub fn switch_vs(m: Modes) -> Modes
     ensures { result ≡ switch VS m }
 {
     let engaged = m.vertical;
@@ -262,8 +287,8 @@ fn vs_switch(m: Modes) -> Modes
     }
 }
 
-// 18: while the flag is set FLC is not cleared.
-fn flc_switch(flag: bool, m: Modes) -> Modes
+// FLC engages, or gives way to PITCH; while the flag is set it is not cleared.
+pub fn switch_flc(flag: bool, m: Modes) -> Modes
     ensures { result ≡ switch_flc flag m }
 {
     let engaged = m.vertical;
@@ -277,8 +302,8 @@ fn flc_switch(flag: bool, m: Modes) -> Modes
     }
 }
 
-// 19
-fn alt_switch(m: Modes) -> Modes
+// ALT engages, or gives way to PITCH.
+pub fn switch_alt(m: Modes) -> Modes
     ensures { result ≡ switch ALT m }
 {
     let engaged = m.vertical;
@@ -288,30 +313,5 @@ fn alt_switch(m: Modes) -> Modes
             ..m
         },
         _ => to_vertical(m, Vertical::Alt),
-    }
-}
-
-// The mode change of an event, with the overspeed flag as handed in.
-pub fn change(e: Event, flag: bool, m: Modes) -> Modes
-    ensures { result ≡ (line_of e).change flag m }
-{
-    match e {
-        Event::OverspeedBegins => overspeed_begins(flag, m),
-        Event::GoAround => to_vertical(to_lateral(m, Lateral::Lga), Vertical::Vga),
-        // what was armed on the side that takes over is cleared, and ROLL and PITCH engage
-        Event::Transfer => basic_modes(),
-        Event::SourceChanged => clear_lappr(clear_nav(m)),
-        Event::NavCaptured => nav_captured(m),
-        Event::LapprCaptured => lappr_captured(m),
-        Event::VapprCaptured => vappr_captured(flag, m),
-        Event::AltselCaptured => altsel_captured(m),
-        Event::AltselOnTrack => altsel_on_track(m),
-        Event::HdgSwitch => hdg_switch(m),
-        Event::NavSwitch => nav_switch(m),
-        Event::ApprSwitch => appr_switch(m),
-        Event::VsSwitch => vs_switch(m),
-        Event::FlcSwitch => flc_switch(flag, m),
-        Event::AltSwitch => alt_switch(m),
-        _ => m,
     }
 }

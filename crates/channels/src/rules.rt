@@ -20,7 +20,7 @@ fn third_step(event: Event, inputs: &Inputs, s: ModeSet) -> ModeSet
 {
     match s {
         ModeSet::Off => ModeSet::Off,
-        ModeSet::On(m) => ModeSet::On(changes::change(event, inputs.overspeed, m)),
+        ModeSet::On(m) => ModeSet::On(events::change(event, inputs.overspeed, m)),
     }
 }
 

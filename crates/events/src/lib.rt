@@ -1,12 +1,15 @@
-// The events by number, and what each does in the first step: to AP, the overspeed flag, PF and the
-// flight directors.
+// The events by number, and what each does: the table of `table` has a line for each, and a function here reads each of its
+// columns.
 #![tactic(auto)]
+
+mod line;
+mod table;
 
 ghost use Rattle.std.specs.Prelude.{◌≡◌};
 ghost use Rattle.modes.specs.Events.{event_at, line_of};
 
-use modes::sets::{engages_alt, engages_flc, engages_hdg, engages_vs, selects_lappr, selects_nav};
-use modes::{Event, ModeSet};
+use crate::table::line_of;
+use modes::{Event, ModeSet, Modes};
 use sides::Side;
 
 // The event of a number, and none above 20.
@@ -40,59 +43,49 @@ pub fn event_at(number: u32) -> Event
 }
 
 // Whether AP is engaged after an event, by whether it was before.
+#[inline(always)]
 pub fn ap_after(e: Event, engaged: bool) -> bool
     ensures { result ≡ (line_of e).ap engaged }
 {
-    match e {
-        Event::ApDisconnect | Event::GoAround => false,
-        Event::ApSwitch => !engaged,
-        _ => engaged,
-    }
+    line_of(e).ap.applied_to(engaged)
 }
 
 // The overspeed flag after an event.
+#[inline(always)]
 pub fn overspeed_after(e: Event, flag: bool) -> bool
     ensures { result ≡ (line_of e).flag flag }
 {
-    match e {
-        Event::OverspeedBegins => true,
-        Event::OverspeedEnds => false,
-        _ => flag,
-    }
+    line_of(e).flag.applied_to(flag)
 }
 
 // Whether the pilot flying changes sides.
+#[inline(always)]
 pub fn transfers(e: Event) -> bool
     ensures { result ≡ (line_of e).transfers }
 {
-    matches!(e, Event::Transfer)
+    line_of(e).pf.moves()
 }
 
 // Whether the FD switch of a side is pressed.
+#[inline(always)]
 pub fn fd_pressed(e: Event, side: Side) -> bool
     ensures { result ≡ (line_of e).pressed side }
 {
-    match e {
-        Event::FdSwitchLeft => matches!(side, Side::Left),
-        Event::FdSwitchRight => matches!(side, Side::Right),
-        _ => false,
-    }
+    line_of(e).pressed.on(side)
 }
 
 // Whether a side that acts asks for FD On: by AP, the flag and that side's set as handed in.
+#[inline(always)]
 pub fn asks_fd(e: Event, ap: bool, flag: bool, s: ModeSet) -> bool
     ensures { result ≡ (line_of e).asks_fd ap flag s }
 {
-    match e {
-        Event::ApSwitch => !ap,
-        Event::OverspeedBegins => !flag,
-        Event::GoAround => true,
-        Event::HdgSwitch => !engages_hdg(s),
-        Event::NavSwitch => !selects_nav(s),
-        Event::ApprSwitch => !selects_lappr(s),
-        Event::VsSwitch => !engages_vs(s),
-        Event::FlcSwitch => !engages_flc(s),
-        Event::AltSwitch => !engages_alt(s),
-        _ => false,
-    }
+    line_of(e).asks.holds(ap, flag, s)
+}
+
+// An On set after the mode change of an event, with the overspeed flag as handed in.
+#[inline(always)]
+pub fn change(e: Event, flag: bool, m: Modes) -> Modes
+    ensures { result ≡ (line_of e).change flag m }
+{
+    line_of(e).change.make(flag, m)
 }

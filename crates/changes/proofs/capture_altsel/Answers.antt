@@ -1,6 +1,6 @@
--- `changes::altsel_captured` meets its contract: ALTSEL is armed beside four of the vertical modes, and the rule then engages it in capture.
+-- `changes::capture_altsel` meets its contract: ALTSEL is armed beside four of the vertical modes, and the rule then engages it in capture.
 use Rattle.changes.proofs.Joins.{altsel_armed, altsel_not_armed, altsel_captured}
-use Rattle.changes.proofs.altsel_captured.Goals as goal
+use Rattle.changes.proofs.capture_altsel.Goals as goal
 
 pub returns-in-Pitch : goal.returns-in-Pitch
 returns-in-Pitch c = altsel_captured _ _ (altsel_armed c.in-Pitch.is)

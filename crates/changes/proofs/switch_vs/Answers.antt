@@ -1,6 +1,6 @@
--- `changes::vs_switch` meets its contract: where VS is engaged, the rule engages PITCH.
+-- `changes::switch_vs` meets its contract: where VS is engaged, the rule engages PITCH.
 use Rattle.changes.proofs.Joins.{vertical_is, vertical_not, vs_switched}
-use Rattle.changes.proofs.vs_switch.Goals as goal
+use Rattle.changes.proofs.switch_vs.Goals as goal
 
 pub returns-in-Vs : goal.returns-in-Vs
 returns-in-Vs c = vs_switched _ _ (vertical_is c.in-Vs.is)

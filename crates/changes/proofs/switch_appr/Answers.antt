@@ -1,10 +1,10 @@
--- `changes::appr_switch` meets its contract: LAPPR is cleared where the rule finds it engaged or armed; else it and VAPPR are armed.
+-- `changes::switch_appr` meets its contract: LAPPR is cleared where the rule finds it engaged or armed; else it and VAPPR are armed.
 use Rattle.std.proofs.Common.{◌≡◌, ◌⊎◌, rules}
 use Rattle.modes.specs.declared.Lateral.{Lateral}
 use Rattle.modes.specs.declared.ArmedLateral.{ArmedLateral}
 use Rattle.changes.proofs.Joins.{lateral_not, lappr_not_armed, appr_switched, lappr_switched_off}
-use Rattle.changes.proofs.appr_switch.Goals.{After-clear_lappr}
-use Rattle.changes.proofs.appr_switch.Goals as goal
+use Rattle.changes.proofs.switch_appr.Goals.{After-clear_lappr}
+use Rattle.changes.proofs.switch_appr.Goals as goal
 
 -- what led to the first arm
 selected : (c : After-clear_lappr) → (c.args.m.lateral ≡ Lateral.Lappr) ⊎ (c.args.m.armed ≡ ArmedLateral.Lappr)

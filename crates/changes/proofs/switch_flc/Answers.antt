@@ -1,7 +1,7 @@
--- `changes::flc_switch` meets its contract: where FLC is engaged, the flag keeps it.
+-- `changes::switch_flc` meets its contract: where FLC is engaged, the flag keeps it.
 use Rattle.std.proofs.Common.{refl}
 use Rattle.changes.proofs.Joins.{vertical_is, vertical_not, flc_switched}
-use Rattle.changes.proofs.flc_switch.Goals as goal
+use Rattle.changes.proofs.switch_flc.Goals as goal
 
 pub returns-in-Flc : goal.returns-in-Flc
 returns-in-Flc c = flc_switched _ _ _ _ (vertical_is c.in-Flc.is) c.if-flag.true

@@ -1,7 +1,7 @@
--- `changes::overspeed_begins` meets its contract: the rule leaves the set where ALT or ALTSEL is engaged or the flag set.
+-- `changes::overspeed` meets its contract: the rule leaves the set where ALT or ALTSEL is engaged or the flag set.
 use Rattle.std.proofs.Common.{refl}
 use Rattle.changes.proofs.Joins.{altitude_held, altitude_not_held, overspeed_begun}
-use Rattle.changes.proofs.overspeed_begins.Goals as goal
+use Rattle.changes.proofs.overspeed.Goals as goal
 
 pub returns-in-Alt : goal.returns-in-Alt
 returns-in-Alt c = overspeed_begun _ _ _ _ (altitude_held c.in-Alt.is) refl

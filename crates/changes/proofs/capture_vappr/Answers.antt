@@ -1,8 +1,8 @@
--- `changes::vappr_captured` meets its contract: beside an engaged LAPPR it asks what the rule asks, and then VAPPR engages, which ends its arming.
+-- `changes::capture_vappr` meets its contract: beside an engaged LAPPR it asks what the rule asks, and then VAPPR engages, which ends its arming.
 use Rattle.std.proofs.Common.{◌≡◌, ◌&&◌, true, not, refl, rules}
 use Rattle.modes.specs.declared.Lateral.{Lateral}
 use Rattle.changes.proofs.Joins.{lateral_is, lateral_not, vappr_captured}
-use Rattle.changes.proofs.vappr_captured.Goals as goal
+use Rattle.changes.proofs.capture_vappr.Goals as goal
 
 pub returns-in-Lappr : goal.returns-in-Lappr
 returns-in-Lappr c =

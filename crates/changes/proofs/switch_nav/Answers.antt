@@ -1,10 +1,10 @@
--- `changes::nav_switch` meets its contract: NAV is cleared where the rule finds it engaged or armed, and else it is armed.
+-- `changes::switch_nav` meets its contract: NAV is cleared where the rule finds it engaged or armed, and else it is armed.
 use Rattle.std.proofs.Common.{◌≡◌, ◌⊎◌, rules}
 use Rattle.modes.specs.declared.Lateral.{Lateral}
 use Rattle.modes.specs.declared.ArmedLateral.{ArmedLateral}
 use Rattle.changes.proofs.Joins.{lateral_not, nav_switched, nav_switched_off}
-use Rattle.changes.proofs.nav_switch.Goals.{After-clear_nav, After-clear_lappr}
-use Rattle.changes.proofs.nav_switch.Goals as goal
+use Rattle.changes.proofs.switch_nav.Goals.{After-clear_nav, After-clear_lappr}
+use Rattle.changes.proofs.switch_nav.Goals as goal
 
 -- what led to each arm, as far as it has no name
 selected : (c : After-clear_nav) → (c.args.m.lateral ≡ Lateral.Nav) ⊎ (c.args.m.armed ≡ ArmedLateral.Nav)
