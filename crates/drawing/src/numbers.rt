@@ -1,9 +1,13 @@
 // What the answers say in numbers, each after a space: a flag is 0 or 1.
-use bench::{Bench, Channel, Counts, Readings, References, Shared, Wholes};
+use bench::{Bench, Counts, Shared};
 use calls::reply::{Display as Shown, Reply};
+use channels::Channel;
+use channels::references::References;
+use feed::{Readings, Wholes};
 use frames::Frame;
 use guidance::Laws;
 use modes::{ModeSet, Modes};
+use sides::Pair;
 use std::fmt::{self, Display, Formatter};
 
 // A value that an answer says in numbers.
@@ -184,19 +188,20 @@ impl Display for Numbers<'_, Shared> {
     }
 }
 
+impl Display for Numbers<'_, Pair<Channel>> {
+    fn fmt<W: fmt::Write>(&self, f: &mut Formatter<W>) -> fmt::Result {
+        let channels = self.0;
+        write!(f, "{}{}", Numbers(&channels.left), Numbers(&channels.right))
+    }
+}
+
 // The sides come before their inboxes.
 impl Display for Numbers<'_, Bench> {
     fn fmt<W: fmt::Write>(&self, f: &mut Formatter<W>) -> fmt::Result {
         let bench = self.0;
         write!(f, "{}{}", Numbers(&bench.shared), Numbers(&bench.counts))?;
         write!(f, "{}{}", Numbers(&bench.readings), Numbers(&bench.wholes))?;
-        write!(f, "{}{}", Numbers(&bench.left), Numbers(&bench.right))?;
-        write!(
-            f,
-            "{}{}",
-            Numbers(&bench.left_inbox),
-            Numbers(&bench.right_inbox)
-        )
+        write!(f, "{}{}", Numbers(&bench.sides), Numbers(&bench.inboxes))
     }
 }
 
@@ -213,6 +218,6 @@ impl Display for Numbers<'_, [u16; 108]> {
 impl Display for Numbers<'_, Frame> {
     fn fmt<W: fmt::Write>(&self, f: &mut Formatter<W>) -> fmt::Result {
         let Frame { side, channel } = *self.0;
-        write!(f, " {side}{}", Numbers(&channel))
+        write!(f, " {}{}", side.number(), Numbers(&channel))
     }
 }

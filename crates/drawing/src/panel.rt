@@ -1,10 +1,11 @@
 // Draws both panels, side by side, with what their displays show, and two flags that no display shows: overspeed
 // and independent operation.
 // A row has 35 columns between a border and a space on either side, so that both panels fit 80 columns.
-use bench::parts::{HEADING, HELD, IAS, PITCH, PRESELECTED, ROLL, VERTICAL_SPEED, reference_at};
 use bench::{Bench, Shared};
 use calls::reply::Display as Shown;
+use channels::references::Reference;
 use refusals::Refusal;
+use sides::Side;
 use std::fmt::{self, Display, Formatter};
 
 // Both panels of a bench, framed by 'panel' and 'end'.
@@ -13,8 +14,8 @@ pub struct Panels<'a>(pub &'a Bench);
 
 impl Display for Panels<'_> {
     fn fmt<W: fmt::Write>(&self, f: &mut Formatter<W>) -> fmt::Result {
-        let left = Panel::of(self.0, 0);
-        let right = Panel::of(self.0, 1);
+        let left = Panel::of(self.0, Side::Left);
+        let right = Panel::of(self.0, Side::Right);
         write!(f, "panel\n{BORDER}  {BORDER}\n")?;
         for row in 0..17 {
             let left = Row { panel: left, row };
@@ -30,27 +31,33 @@ const BORDER: &str = "+-------------------------------------+";
 // What the panel of a side is drawn from; of a display that was refused there is only the refusal.
 #[derive(Clone, Copy)]
 struct Panel {
-    side: u32,
+    side: Side,
     display: Result<Shown, Refusal>,
     shared: Shared,
 }
 
 impl Panel {
-    fn of(bench: &Bench, side: u32) -> Panel {
+    fn of(bench: &Bench, side: Side) -> Panel {
         Panel {
             side,
-            display: calls::display(bench, side),
+            display: calls::display(bench, side.number()),
             shared: bench.shared,
         }
     }
 
     fn name(&self) -> &'static str {
-        if self.side == 0 { "LEFT" } else { "RIGHT" }
+        match self.side {
+            Side::Left => "LEFT",
+            Side::Right => "RIGHT",
+        }
     }
 
     // Whether the side has the pilot flying. A display shows both PF lamps.
     fn role(&self, lamps: u32) -> &'static str {
-        let lamp = if self.side == 0 { 128 } else { 256 };
+        let lamp = match self.side {
+            Side::Left => 128,
+            Side::Right => 256,
+        };
         if lamps & lamp != 0 {
             "PILOT FLYING"
         } else {
@@ -105,13 +112,25 @@ impl Row {
             7 => write!(f, "vertical  engaged  {vertical:<15}{}", shown.vertical),
             8 => write!(f, "          armed    {armed_vertical:<16}"),
             9 => f.write_str("TARGETS             * = steered to "),
-            10 => put_target(f, shown, HEADING, "heading", "deg"),
-            11 => put_target(f, shown, PRESELECTED, "preselected altitude", "ft"),
-            12 => put_target(f, shown, HELD, "held altitude", "ft"),
-            13 => put_target(f, shown, VERTICAL_SPEED, "vertical speed", "ft/min"),
-            14 => put_target(f, shown, IAS, "indicated airspeed", "kt"),
-            15 => put_target(f, shown, ROLL, "roll", "deg"),
-            _ => put_target(f, shown, PITCH, "pitch", "deg"),
+            10 => put_target(f, shown, Reference::Heading, "heading", "deg"),
+            11 => put_target(
+                f,
+                shown,
+                Reference::Preselected,
+                "preselected altitude",
+                "ft",
+            ),
+            12 => put_target(f, shown, Reference::Held, "held altitude", "ft"),
+            13 => put_target(
+                f,
+                shown,
+                Reference::VerticalSpeed,
+                "vertical speed",
+                "ft/min",
+            ),
+            14 => put_target(f, shown, Reference::Ias, "indicated airspeed", "kt"),
+            15 => put_target(f, shown, Reference::Roll, "roll", "deg"),
+            _ => put_target(f, shown, Reference::Pitch, "pitch", "deg"),
         }
     }
 }
@@ -208,51 +227,33 @@ fn armed_vertical_name(sum: u32) -> &'static str {
 
 // ---- targets
 
-// The place of the reference that a lateral law steers to. A law and a place go by number here and below, as a display
-// and `reference_at` have them.
-fn lateral_target(law: u32) -> Option<u32> {
-    match law {
-        1 => Some(ROLL),
-        2 => Some(HEADING),
-        _ => None,
+// Whether an engaged mode steers to a reference. A law goes by its number here, as a display has it.
+fn is_steered_to(name: Reference, shown: Shown) -> bool {
+    match name {
+        Reference::Roll => shown.lateral == 1,
+        Reference::Heading => shown.lateral == 2,
+        Reference::Pitch => shown.vertical == 1,
+        Reference::VerticalSpeed => shown.vertical == 2,
+        Reference::Ias => shown.vertical == 3,
+        Reference::Held => shown.vertical == 4,
+        Reference::Preselected => matches!(shown.vertical, 5 | 6),
     }
 }
 
-// The place of the reference that a vertical law steers to.
-fn vertical_target(law: u32) -> Option<u32> {
-    match law {
-        1 => Some(PITCH),
-        2 => Some(VERTICAL_SPEED),
-        3 => Some(IAS),
-        4 => Some(HELD),
-        5 | 6 => Some(PRESELECTED),
-        _ => None,
-    }
-}
-
-// A reference by its place, in its unit, and marked where it is steered to.
+// A reference in its unit, and marked where it is steered to.
 fn put_target<W: fmt::Write>(
     f: &mut Formatter<W>,
     shown: Shown,
-    place: u32,
-    name: &str,
+    name: Reference,
+    text: &str,
     unit: &str,
 ) -> fmt::Result {
-    let steered = [
-        lateral_target(shown.lateral),
-        vertical_target(shown.vertical),
-    ];
-    let mark = if steered.contains(&Some(place)) {
-        "*"
-    } else {
-        " "
+    let mark = if is_steered_to(name, shown) { "*" } else { " " };
+    let reference = i64::from(shown.references.get(name));
+    let amount = match name {
+        // it counts hundreds of feet a minute
+        Reference::VerticalSpeed => reference * 100,
+        _ => reference,
     };
-    let reference = i64::from(reference_at(shown.references, place));
-    // vertical speed counts hundreds of feet a minute
-    let amount = if place == VERTICAL_SPEED {
-        reference * 100
-    } else {
-        reference
-    };
-    write!(f, "{mark} {name:<20}{amount:>6} {unit:<6}")
+    write!(f, "{mark} {text:<20}{amount:>6} {unit:<6}")
 }
