@@ -2,10 +2,10 @@
 // side, in the words of the console. tests/sheet.txt is the same as a script, which the second implementation answers.
 #![tactic(auto)]
 
-use bench::Reading;
 use bench::call::Call;
 use calls::reply::Reply;
 use drawing::answers::{CallLine, PickLine};
+use feed::Reading;
 use refusals::refusal_number;
 use std::io;
 

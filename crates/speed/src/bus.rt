@@ -7,31 +7,35 @@ ghost use Rattle.std.specs.Prelude.{◌<◌};
 
 use crate::checksum::{Sum, pair};
 use crate::list;
-use bench::parts::{HEADING, HELD, IAS, PITCH, PRESELECTED, ROLL, VERTICAL_SPEED};
-use bench::ranges::{clamped_sum, reference_range};
-use bench::{Bench, Channel, Reading, Readings, References, Shared, Wholes};
+use bench::starts::power_on;
+use bench::{Bench, Shared};
+use channels::Channel;
+use channels::references::{Reference, References};
+use feed::ranges::clamped_sum;
+use feed::{Reading, Readings, Wholes};
 use modes::ModeSet;
 use refusals::{Told, refusal_number};
+use sides::{Pair, Side};
 
 // ---- the benches
 
-// The reference of a place that lies so far above the lower end of its range.
-fn reference(place: u32, above: u64) -> i32
+// A reference that lies so far above the lower end of its range.
+fn reference(name: Reference, above: u64) -> i32
     requires { above < 65536 }
 {
-    let range = reference_range(place);
+    let range = name.range();
     clamped_sum(range, range.low, above as i32)
 }
 
 fn references_of(word: u64) -> References {
     References {
-        heading: reference(HEADING, word % 360),
-        preselected: reference(PRESELECTED, (word >> 8) % 64001),
-        held: reference(HELD, (word >> 24) % 64001),
-        vertical_speed: reference(VERTICAL_SPEED, (word >> 40) % 101),
-        ias: reference(IAS, (word >> 48) % 341),
-        roll: reference(ROLL, (word >> 32) % 55),
-        pitch: reference(PITCH, (word >> 56) % 41),
+        heading: reference(Reference::Heading, word % 360),
+        preselected: reference(Reference::Preselected, (word >> 8) % 64001),
+        held: reference(Reference::Held, (word >> 24) % 64001),
+        vertical_speed: reference(Reference::VerticalSpeed, (word >> 40) % 101),
+        ias: reference(Reference::Ias, (word >> 48) % 341),
+        roll: reference(Reference::Roll, (word >> 32) % 55),
+        pitch: reference(Reference::Pitch, (word >> 56) % 41),
     }
 }
 
@@ -58,7 +62,7 @@ fn readings_of(word: u64) -> Readings {
 }
 
 fn whole(r: Reading) -> i32 {
-    bench::feed::number_of(bench::feed::whole_reading(r))
+    r.whole().unwrap_or(0)
 }
 
 // Their whole values.
@@ -80,7 +84,7 @@ fn bench_of(word: u64) -> Bench {
     let left = channel_of(word);
     let right = channel_of(other);
     let readings = readings_of(other);
-    let start = bench::power_on();
+    let start = power_on();
     Bench {
         shared: Shared {
             pf: if list::is_rare(other) { 2 } else { 0 },
@@ -88,10 +92,11 @@ fn bench_of(word: u64) -> Bench {
         },
         readings,
         wholes: wholes_of(readings),
-        left,
-        right,
-        left_inbox: right,
-        right_inbox: left,
+        sides: Pair { left, right },
+        inboxes: Pair {
+            left: right,
+            right: left,
+        },
         ..start
     }
 }
@@ -158,13 +163,15 @@ fn read_at<const LIVE: bool>(area: &[u8; 2048], at: u64, instead: Channel, sum: 
         refusal,
         value: frame,
     } = Told::of(frames::no_frame(), read);
-    sum.with(at ^ pair(0, frame.side) ^ (u64::from(refusal) << 40))
+    sum.with(at ^ pair(0, frame.side.number()) ^ (u64::from(refusal) << 40))
         .with_channel(frame.channel)
 }
 
 // A read, rarely one with one byte of the frame changed, which is changed back.
 fn read_step<const LIVE: bool>(area: &mut [u8; 2048], b: Bench, word: u64, sum: Sum) -> Sum {
-    let c = bench::parts::box_of(&b, side(word));
+    let c = b
+        .sides
+        .get(Side::try_from(side(word)).unwrap_or(Side::Right));
     let begin = frame_start(word);
     if !is_spoiled(word) {
         return read_at::<LIVE>(area, start(word, begin), c, sum);
@@ -197,7 +204,7 @@ fn run_steps<F: FnMut(&mut [u8; 2048], Bench, u64, Sum) -> Sum>(
 ) -> Sum
     requires { (f : _) (part : _) (b : _) (word : _) (sum : _) → F.pre f part b word sum }
 {
-    let mut b = bench::power_on();
+    let mut b = power_on();
     let mut sum = Sum(0);
     let mut word = list::first(seed);
     for left in (1..=calls).rev() {

@@ -1,8 +1,12 @@
 // The checksum of a list's arguments and answers.
 use bench::call::Call;
-use bench::{Bench, Channel, Counts, Reading, Readings, References, Wholes};
+use bench::{Bench, Counts};
 use calls::reply::{Display, Reply, beside_refusal};
+use channels::Channel;
+use channels::references::References;
+use feed::{Kind, Reading, Readings, Wholes};
 use refusals::{Refusal, Told};
+use sides::Pair;
 
 // A sum of words, in their order.
 #[derive(Clone, Copy)]
@@ -64,14 +68,7 @@ impl Sum {
 
     // A reading's kind and its float.
     fn with_reading(self, r: Reading) -> Sum {
-        let kind = u64::from(bench::feed::kind_of(r));
-        let (Reading::Altitude(x)
-        | Reading::Airspeed(x)
-        | Reading::VerticalSpeed(x)
-        | Reading::Roll(x)
-        | Reading::Pitch(x)
-        | Reading::Heading(x)) = r;
-        self.with(kind).with(float_code(x))
+        self.with(kind_code(r.kind())).with(float_code(r.float()))
     }
 
     // A side or an inbox. The two laws and the armed sum tell every set from every other.
@@ -83,6 +80,12 @@ impl Sum {
             .with_all(reference_words(c.references))
     }
 
+    // The sides, or the inboxes.
+    fn with_pair(self, channels: Pair<Channel>) -> Sum {
+        self.with_channel(channels.left)
+            .with_channel(channels.right)
+    }
+
     // All that a bench holds.
     pub(crate) fn with_bench(self, b: Bench) -> Sum {
         let s = b.shared;
@@ -91,16 +94,26 @@ impl Sum {
             .with(count_word(b.counts))
             .with_all(reading_words(b.readings))
             .with_all(whole_words(b.wholes))
-            .with_channel(b.left)
-            .with_channel(b.right)
-            .with_channel(b.left_inbox)
-            .with_channel(b.right_inbox)
+            .with_pair(b.sides)
+            .with_pair(b.inboxes)
     }
 }
 
 // Two numbers in a word.
 pub(crate) fn pair(low: u32, high: u32) -> u64 {
     u64::from(low) ^ (u64::from(high) << 32)
+}
+
+// The kinds by number, in the order of the readings.
+fn kind_code(kind: Kind) -> u64 {
+    match kind {
+        Kind::Altitude => 0,
+        Kind::Airspeed => 1,
+        Kind::VerticalSpeed => 2,
+        Kind::Roll => 3,
+        Kind::Pitch => 4,
+        Kind::Heading => 5,
+    }
 }
 
 // A signed number: twice its magnitude, and 1 more below zero.

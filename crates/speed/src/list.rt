@@ -1,8 +1,8 @@
 // The list: a pseudo-random word for each call, and the call that a word gives.
 ghost use Rattle.std.specs.Prelude.{◌<◌, ◌≤◌};
 
-use bench::Reading;
 use bench::call::Call;
+use feed::Reading;
 
 // The word after a word: Marsaglia's xorshift by 13, 7 and 17, which goes through all words but 0.
 pub(crate) fn shuffled(word: u64) -> u64 {

@@ -41,7 +41,7 @@ impl Run {
 // each call is in the sum too.
 fn run_list<const LIVE: bool>(seed: u64, calls: u64, chosen: u64) -> Sum {
     let mut run = Run {
-        bench: bench::power_on(),
+        bench: bench::starts::power_on(),
         sum: Sum(0),
     };
     let mut word = list::first(seed);
