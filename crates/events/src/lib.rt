@@ -1,5 +1,5 @@
-// The events by number, and what each does: the table of `table` has a line for each, and a function here reads each of its
-// columns.
+// The events by number, and what each does. That stands in one place, the table in `table`, with a line for each event; each
+// function here but the first reads a column of it.
 #![tactic(auto)]
 
 mod line;

@@ -1,17 +1,13 @@
-// What stands in a line of the events' table: a word in each column, and what it says. The words are those of the definitions,
-// in modes/specs/Events.antt.
+// A line of the events' table: a word in each column, and what that word does. The words are those of the definitions' table,
+// in modes/specs/Events.antt, and are data so that one match has all that an event does.
 ghost use Rattle.std.specs.Prelude.{◌≡◌};
 ghost use Rattle.events.specs.Private.{effect, moves, pressed, asked, changed};
 
-use changes::{
-    capture_altsel, capture_lappr, capture_nav, capture_vappr, clear_navigation, go_around,
-    overspeed, switch_alt, switch_appr, switch_flc, switch_hdg, switch_nav, switch_vs, take_basic,
-    track,
-};
 use modes::sets::{engages_alt, engages_flc, engages_hdg, engages_vs, selects_lappr, selects_nav};
 use modes::{ModeSet, Modes};
 use sides::Side;
 
+// What an event does.
 #[derive(Clone, Copy)]
 pub struct Line {
     pub ap: Effect,
@@ -22,7 +18,7 @@ pub struct Line {
     pub change: Change,
 }
 
-// What becomes of AP, or of the overspeed flag.
+// What becomes of AP or of the overspeed flag.
 #[derive(Clone, Copy)]
 pub enum Effect {
     Stays,
@@ -45,7 +41,7 @@ impl Effect {
     }
 }
 
-// Whether the pilot flying changes sides.
+// Whether the pilot flying keeps the side or changes it.
 #[derive(Clone, Copy)]
 pub enum Pf {
     Keeps,
@@ -70,6 +66,7 @@ pub enum Pressed {
 }
 
 impl Pressed {
+    // Whether the switch of this side is.
     #[inline(always)]
     pub fn on(self, side: Side) -> bool
         ensures { result ≡ pressed self side }
@@ -98,7 +95,7 @@ pub enum Asks {
 }
 
 impl Asks {
-    // By AP, the flag and the side's set as handed in.
+    // Whether a side with this set does, by AP, the flag and the set as handed in.
     #[inline(always)]
     pub fn holds(self, ap: bool, flag: bool, s: ModeSet) -> bool
         ensures { result ≡ asked self ap flag s }
@@ -140,28 +137,28 @@ pub enum Change {
 }
 
 impl Change {
-    // With the flag as handed in.
+    // The set after it, by the flag as handed in.
     #[inline(always)]
     pub fn make(self, flag: bool, m: Modes) -> Modes
         ensures { result ≡ changed self flag m }
     {
         match self {
             Change::Nothing => m,
-            Change::Overspeed => overspeed(flag, m),
-            Change::GoAround => go_around(m),
-            Change::TakeBasic => take_basic(m),
-            Change::ClearNavigation => clear_navigation(m),
-            Change::CaptureNav => capture_nav(m),
-            Change::CaptureLappr => capture_lappr(m),
-            Change::CaptureVappr => capture_vappr(flag, m),
-            Change::CaptureAltsel => capture_altsel(m),
-            Change::Track => track(m),
-            Change::SwitchHdg => switch_hdg(m),
-            Change::SwitchNav => switch_nav(m),
-            Change::SwitchAppr => switch_appr(m),
-            Change::SwitchVs => switch_vs(m),
-            Change::SwitchFlc => switch_flc(flag, m),
-            Change::SwitchAlt => switch_alt(m),
+            Change::Overspeed => changes::overspeed(flag, m),
+            Change::GoAround => changes::go_around(m),
+            Change::TakeBasic => changes::take_basic(m),
+            Change::ClearNavigation => changes::clear_navigation(m),
+            Change::CaptureNav => changes::capture_nav(m),
+            Change::CaptureLappr => changes::capture_lappr(m),
+            Change::CaptureVappr => changes::capture_vappr(flag, m),
+            Change::CaptureAltsel => changes::capture_altsel(m),
+            Change::Track => changes::track(m),
+            Change::SwitchHdg => changes::switch_hdg(m),
+            Change::SwitchNav => changes::switch_nav(m),
+            Change::SwitchAppr => changes::switch_appr(m),
+            Change::SwitchVs => changes::switch_vs(m),
+            Change::SwitchFlc => changes::switch_flc(flag, m),
+            Change::SwitchAlt => changes::switch_alt(m),
         }
     }
 }

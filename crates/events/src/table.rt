@@ -1,4 +1,4 @@
-// The table of the events.
+// The table of the events, in the order of their numbers.
 ghost use Rattle.std.specs.Prelude.{◌≡◌};
 ghost use Rattle.modes.specs.Events.{line_of};
 ghost use Rattle.events.specs.Private.{meaning};
@@ -31,8 +31,8 @@ fn line(ap: Effect, flag: Effect, pf: Pf, pressed: Pressed, asks: Asks, change: 
     }
 }
 
-// What an event does, a line for each: to AP, to the overspeed flag and to the pilot flying, whose FD switch it presses, when a
-// side that acts asks for FD On, and what it does to an On set. The last two do not go through the three steps.
+// The columns are AP, the overspeed flag, the pilot flying, whose FD switch is pressed, when a side that acts asks for FD On,
+// and the mode change. The last two events go through no steps, and their lines do nothing.
 #[inline(always)]
 pub fn line_of(event: Event) -> Line
     ensures { meaning result ≡ line_of event }
