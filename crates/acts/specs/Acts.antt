@@ -11,7 +11,8 @@ use Rattle.bench.specs.declared.call.Call.{Call}
 use Rattle.bench.specs.Holds.{power_on, started}
 use Rattle.bench.specs.Counts.{count_of}
 use Rattle.calls.specs.declared.reply.Reply.{Reply}
-use Rattle.calls.specs.Calls.{reply, next}
+use Rattle.rules.specs.Calls.{next}
+use Rattle.calls.specs.Answers.{reply}
 use Rattle.acts.specs.declared.Effect.{Effect}
 use Rattle.scripts.specs.declared.AreaAct.{AreaAct}
 use Rattle.acts.specs.Damage.{pf_damaged, independent_damaged, set_damaged, reference_damaged, reading_damaged, whole_damaged}

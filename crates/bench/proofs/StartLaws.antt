@@ -88,6 +88,10 @@ by_start P at (pos n) =
 pub start_sound : (speed : ℤ) → sound (started speed).bench ≡ true
 start_sound = by_start (λ (b : Bench). sound b ≡ true) at_sound
 
+pub power_on_sound : sound power_on ≡ true
+unfolding power_on
+power_on_sound = at_sound 120 refl
+
 -- ---- which speeds are accepted
 
 is_accepted : (speed : ℤ) → within start_speeds speed ≡ true → Accepted speed

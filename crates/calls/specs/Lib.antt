@@ -1,3 +1,2 @@
 pub mod Displays
-pub mod Calls
 pub mod Answers

@@ -19,7 +19,8 @@ use Rattle.bench.specs.Holds.{bench_at, power_on, start_speeds, started}
 use Rattle.bench.specs.Sound.{sound}
 use Rattle.bench.proofs.StartLaws.{at_sound, by_start}
 use Rattle.calls.specs.declared.reply.Display.{Display}
-use Rattle.calls.specs.Calls.{granted, next, reply}
+use Rattle.rules.specs.Calls.{granted, next}
+use Rattle.calls.specs.Answers.{reply}
 use Rattle.calls.specs.Answers.{tells}
 use Rattle.soundness.proofs.Kept.{next_sound}
 use Rattle.claim.specs.Lists.{after, transfers, refreshes, sends, pilot_from, pilot_flying, None, OffThroughout}

@@ -18,7 +18,7 @@ use Rattle.bench.specs.Sound.{sound}
 use Rattle.rules.specs.Steps.{shared_after, asks_for, is_asked, fd_after, first_step, three_steps, acted}
 use Rattle.rules.specs.Turns.{turned}
 use Rattle.calls.specs.Displays.{lamps, shown}
-use Rattle.calls.specs.Calls.{granted, next}
+use Rattle.rules.specs.Calls.{granted, next}
 
 -- mode sets and their changes
 unfoldable sets : Unit {0}

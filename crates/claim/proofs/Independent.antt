@@ -32,7 +32,8 @@ use Rattle.bench.proofs.SoundParts.{independent_part}
 use Rattle.bench.proofs.Independent.{same_operation, sound_off, sound_stays}
 use Rattle.rules.specs.Steps.{acted}
 use Rattle.rules.specs.Turns.{counted, turned}
-use Rattle.calls.specs.Calls.{Deed, act, turn, keep, send, refresh, show, word_event, asked, granted, done, left_by, next, event_answer}
+use Rattle.rules.specs.Calls.{Deed, act, turn, keep, send, refresh, show, word_event, asked, granted, done, left_by, next}
+use Rattle.calls.specs.Answers.{event_answer}
 use Rattle.claim.specs.Lists.{accepted_for, is_act, transfers}
 use Rattle.claim.specs.Independent.{IndependentLaws}
 use Rattle.claim.proofs.OneCall.{next_is, acted_transfer, step}

@@ -13,7 +13,7 @@ use Rattle.bench.specs.declared.call.Call.{Call}
 use Rattle.bench.specs.Acting.{acts}
 use Rattle.bench.specs.Sound.{sound}
 use Rattle.calls.specs.declared.reply.Reply.{Reply}
-use Rattle.calls.specs.Calls.{asked, next}
+use Rattle.rules.specs.Calls.{asked, next}
 use Rattle.soundness.proofs.Kept.{next_sound}
 use Rattle.claim.specs.Lists.{after, all_told, transfers, refreshes, sends, asks_independent, pilot_from, None, OffThroughout}
 use Rattle.claim.specs.Claim.{Served}

@@ -41,7 +41,8 @@ use Rattle.rules.specs.Steps.{shared_after, first_step, three_steps, acted}
 use Rattle.rules.specs.Turns.{counted, turned}
 use Rattle.rules.specs.Sends.{sent, side_refreshed, refreshed}
 use Rattle.rules.proofs.ByEvent.{by_event}
-use Rattle.calls.specs.Calls.{Deed, act, turn, keep, send, refresh, show, word_event, asked, granted, done, left_by, next, replied}
+use Rattle.rules.specs.Calls.{Deed, act, turn, keep, send, refresh, show, word_event, asked, granted, done, left_by, next}
+use Rattle.calls.specs.Answers.{replied}
 use Rattle.calls.specs.Answers.{tells}
 use Rattle.claim.specs.Lists.{accepted_for, is_act, is_send, is_refresh, transfers, refreshes, sends, asks_independent}
 

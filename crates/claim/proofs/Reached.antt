@@ -14,7 +14,7 @@ use Rattle.sides.proofs.Laws.{side_laws}
 use Rattle.feed.specs.Readings.{reading_verdict}
 use Rattle.channels.specs.Turns.{knob_of}
 use Rattle.bench.specs.declared.call.Call.{Call}
-use Rattle.calls.specs.Calls.{Deed, act, turn, keep, send, refresh, show, word_event}
+use Rattle.rules.specs.Calls.{Deed, act, turn, keep, send, refresh, show, word_event}
 use Rattle.claim.specs.Lists.{accepted_for, is_send, is_refresh, refreshes, sends, None}
 use Rattle.claim.specs.Reached.{Lateral, Vertical, TurnsOn, Ends, Speaks, SpeaksUnsent, SpeaksAgain, Silent, Last, Reached}
 use Rattle.claim.proofs.OneCall.{same_number}

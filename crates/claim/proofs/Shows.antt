@@ -25,7 +25,7 @@ use Rattle.bench.specs.declared.Bench.{Bench}
 use Rattle.bench.specs.Sound.{sound}
 use Rattle.calls.specs.declared.reply.Display.{Display}
 use Rattle.calls.specs.Displays.{shown, blank}
-use Rattle.calls.specs.Calls.{display_answer}
+use Rattle.calls.specs.Answers.{display_answer}
 use Rattle.soundness.proofs.Kept.{on_laws}
 use Rattle.bench.specs.Independent.{both_approach, independent_sound}
 use Rattle.bench.proofs.SoundParts.{parts, independent_part}

@@ -19,7 +19,8 @@ use Rattle.bench.specs.Sound.{sound}
 use Rattle.calls.specs.declared.reply.Display.{Display}
 use Rattle.calls.specs.declared.reply.Reply.{Reply}
 use Rattle.calls.specs.Displays.{blank}
-use Rattle.calls.specs.Calls.{asked, display_answer}
+use Rattle.rules.specs.Calls.{asked}
+use Rattle.calls.specs.Answers.{display_answer}
 use Rattle.claim.specs.Lists.{after, replies, all_told, transfers, refreshes, sends, pilot_from, pilot_flying, None, OffThroughout}
 
 -- ---- what a display shows

@@ -5,7 +5,8 @@ use Rattle.bench.specs.declared.Bench.{Bench}
 use Rattle.bench.specs.declared.call.Call.{Call}
 use Rattle.bench.specs.Independent.{both_approach, with_operation}
 use Rattle.bench.specs.Sound.{sound}
-use Rattle.calls.specs.Calls.{next, event_answer}
+use Rattle.rules.specs.Calls.{next}
+use Rattle.calls.specs.Answers.{event_answer}
 use Rattle.claim.specs.Lists.{transfers, asks_independent, None, OffThroughout}
 
 pub record IndependentLaws : Type 0 where

@@ -9,7 +9,8 @@ use Rattle.bench.specs.declared.Bench.{Bench}
 use Rattle.bench.specs.declared.call.Call.{Call}
 use Rattle.bench.specs.Acting.{other_side}
 use Rattle.calls.specs.declared.reply.Reply.{Reply}
-use Rattle.calls.specs.Calls.{Deed, act, turn, keep, send, refresh, show, asked, next, reply}
+use Rattle.rules.specs.Calls.{Deed, act, turn, keep, send, refresh, show, asked, next}
+use Rattle.calls.specs.Answers.{reply}
 use Rattle.calls.specs.Answers.{tells}
 
 -- ---- a list of calls by the rules: the bench is handed on from call to call

@@ -4,7 +4,7 @@ use Rattle.std.specs.Result.{result_map_both}
 use Rattle.refusals.specs.declared.Refusal.{Refusal}
 use Rattle.refusals.specs.Told.{told}
 use Rattle.calls.specs.declared.reply.Display.{Display}
-use Rattle.calls.specs.Calls.{display_answer}
+use Rattle.calls.specs.Answers.{display_answer}
 use Rattle.calls.specs.Displays.{blank}
 use Rattle.guidance.specs.Picker.{laws_of, no_laws, picked, PickLaws}
 

@@ -5,7 +5,7 @@ use Rattle.refusals.specs.declared.Refusal.{Refusal}
 use Rattle.refusals.specs.Told.{told}
 use Rattle.bench.specs.declared.Bench.{Bench}
 use Rattle.calls.specs.declared.reply.Display.{Display}
-use Rattle.calls.specs.Calls.{display_answer}
+use Rattle.calls.specs.Answers.{display_answer}
 use Rattle.calls.specs.Displays.{blank}
 use Rattle.guidance.specs.declared.Laws.{Laws}
 

@@ -3,11 +3,12 @@
 use Rattle.std.specs.Prelude.{◌≡◌, true, List, ℕ, ◌≤◌, ◌<◌, ℤ, Result, Ok, Err}
 use Rattle.refusals.specs.declared.Refusal.{Refusal}
 use Rattle.refusals.specs.Told.{told}
+use Rattle.sides.specs.declared.Side.{Side}
+use Rattle.sides.specs.Sides.{number, at}
 use Rattle.modes.specs.declared.ModeSet.{ModeSet}
 use Rattle.bench.specs.declared.Bench.{Bench}
 use Rattle.bench.specs.declared.call.Call.{Call}
 use Rattle.bench.specs.Holds.{started}
-use Rattle.bench.specs.Sides.{side}
 use Rattle.bench.specs.Sound.{sound}
 use Rattle.guidance.specs.declared.Laws.{Laws}
 use Rattle.guidance.specs.Picker.{no_laws, picked}
@@ -34,12 +35,12 @@ Flies set (Err refusal) = ⊥
 
 -- page twelve of the customer's manual, of what the code answers after a start and calls: it is said of the bench that the code left and of what its own picker then picks
 pub record PageTwelve (f : Flight) : Type 0 where
-  pub left : Flies f.bench.left.set f.left
-  pub right : Flies f.bench.right.set f.right
+  pub left : Flies f.bench.sides.left.set f.left
+  pub right : Flies f.bench.sides.right.set f.right
 
 -- the same of a list of calls from any sound bench, by the rules
 pub record Guides (start : Bench) (cs : List Call) : Type 0 where
-  pub flies : (s : ℕ) → s ≤ 1 → Flies (side (after start cs) s).set (picked (after start cs) s)
+  pub flies : (s : Side) → Flies (at s (after start cs).sides).set (picked (after start cs) (number s))
   -- a number that names no side tells 2, and no laws
   pub no_side : (s : ℕ) → 1 < s → told no_laws (picked (after start cs) s) ≡ record { refusal = 2; value = no_laws }
 

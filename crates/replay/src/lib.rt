@@ -55,7 +55,7 @@ pub fn fly(speed: i32, calls: &[Call], answers: &mut [Result<Reply, Refusal>]) -
     // demand 3, which means by power-on the start that was made
     ensures demand_3 { Claim (started speed).bench (made calls.now answers.old) }
 {
-    let start = bench::start(speed);
+    let start = bench::starts::start(speed);
     let mut bench = start.bench;
     run(&mut bench, calls, answers);
     Flight {

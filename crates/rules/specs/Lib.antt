@@ -2,4 +2,5 @@ pub mod Steps
 pub mod Turns
 pub mod Sends
 pub mod Readings
+pub mod Calls
 pub mod Private

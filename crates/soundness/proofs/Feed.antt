@@ -30,7 +30,7 @@ use Rattle.bench.proofs.Laws.{acting_laws}
 use Rattle.rules.specs.Steps.{first_step, three_steps}
 use Rattle.rules.specs.Turns.{counted, turned}
 use Rattle.rules.proofs.ByEvent.{by_event}
-use Rattle.calls.specs.Calls.{Deed, act, turn, keep, send, refresh, show, word_event, asked, granted, verdict, done, left_by, next}
+use Rattle.rules.specs.Calls.{Deed, act, turn, keep, send, refresh, show, word_event, asked, granted, verdict, done, left_by, next}
 use Rattle.soundness.specs.Feed.{is_reading, SameFeed, FeedLaws}
 use Rattle.soundness.proofs.Kept.{IfOk, named, next_sound}
 

@@ -45,7 +45,7 @@ use Rattle.rules.specs.Turns.{counted, turned}
 use Rattle.rules.specs.Sends.{sent, side_refreshed, refreshed}
 use Rattle.rules.specs.Readings.{received}
 use Rattle.rules.proofs.ByEvent.{by_event}
-use Rattle.calls.specs.Calls.{Deed, act, turn, keep, send, refresh, show, word_event, asked, granted, done, left_by, next}
+use Rattle.rules.specs.Calls.{Deed, act, turn, keep, send, refresh, show, word_event, asked, granted, done, left_by, next}
 use Rattle.soundness.specs.Kept.{KeepsSound, LawsInRange}
 
 -- ---- what the calls are made of
@@ -154,9 +154,17 @@ left_sound : (b : Bench) (r : Result Deed Refusal) → IfOk Judged r → sound b
 left_sound b (Ok d) j h = whole _ (ended_in _ (done_in d b j (parts b h))) (ended_holds (done d b))
 left_sound b (Err refusal) j h = h
 
+-- so a call whose bench was judged leaves a sound one
+pub asked_sound : (b : Bench) (c : Call) → sound b ≡ true → sound (left_by b (asked c)) ≡ true
+asked_sound b c = left_sound b (asked c) (asked_judged c)
+
+-- the same as a premise of what a function leaves
+pub left_is_sound : (b x : Bench) (c : Call) → x ≡ left_by b (asked c) → sound b ≡ true → sound x ≡ true
+left_is_sound b x c e h = rw e (asked_sound b c h)
+
 pub next_sound : (b : Bench) (c : Call) → sound b ≡ true → sound (next b c) ≡ true
 unfolding next granted
-next_sound b c h = rw h (left_sound b (asked c) (asked_judged c) h)
+next_sound b c h = rw h (asked_sound b c h)
 
 pub keeps_sound : KeepsSound
 keeps_sound = record { start = start_sound; call = next_sound }

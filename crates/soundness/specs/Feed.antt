@@ -12,7 +12,7 @@ use Rattle.bench.specs.Acting.{on_acting}
 use Rattle.bench.specs.Sound.{sound}
 use Rattle.rules.specs.Steps.{first_step}
 use Rattle.rules.specs.Turns.{counted}
-use Rattle.calls.specs.Calls.{verdict, next}
+use Rattle.rules.specs.Calls.{verdict, next}
 
 abbrev pub is_reading : Call → Bool
 is_reading (Call.Event word) = false

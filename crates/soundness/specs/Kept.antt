@@ -6,7 +6,7 @@ use Rattle.bench.specs.declared.Bench.{Bench}
 use Rattle.bench.specs.declared.call.Call.{Call}
 use Rattle.bench.specs.Holds.{started}
 use Rattle.bench.specs.Sound.{sound}
-use Rattle.calls.specs.Calls.{next}
+use Rattle.rules.specs.Calls.{next}
 
 -- the bench of every start is sound, also that of a refused one, and of a sound bench every call, accepted or refused, makes a sound one
 pub record KeepsSound : Type 0 where

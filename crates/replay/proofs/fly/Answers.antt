@@ -2,7 +2,7 @@
 use Rattle.std.proofs.Common.{◌≡◌, true, ◌++◌, length, drop, ap, ◌∙◌, arith}
 use Rattle.rotation.proofs.Signed.{same32}
 use Rattle.bench.specs.declared.Bench.{Bench}
-use Rattle.bench.specs.declared.Started.{Started}
+use Rattle.bench.specs.declared.starts.Started.{Started}
 use Rattle.bench.specs.Holds.{started}
 use Rattle.bench.specs.Sound.{sound}
 use Rattle.bench.proofs.StartLaws.{start_sound}

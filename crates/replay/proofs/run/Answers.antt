@@ -4,7 +4,8 @@ use Rattle.refusals.specs.declared.Refusal.{Refusal}
 use Rattle.bench.specs.declared.Bench.{Bench}
 use Rattle.bench.specs.declared.call.Call.{Call}
 use Rattle.calls.specs.declared.reply.Reply.{Reply}
-use Rattle.calls.specs.Calls.{next, reply}
+use Rattle.rules.specs.Calls.{next}
+use Rattle.calls.specs.Answers.{reply}
 use Rattle.claim.proofs.Claimed.{claim_from, refused_from}
 use Rattle.replay.proofs.Made.{bench_more, answers_more}
 use Rattle.replay.proofs.run.Goals as goal

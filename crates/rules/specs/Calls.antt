@@ -1,5 +1,5 @@
--- The calls as data: which are turned away, in what order, what the others do, and what each answers. Document 01, 'Event words', 'Sends, refreshes, knobs', 'Readings',
--- 'Display' and 'Who can be turned away'; document 02, 2026-03, for bit 20 and for what ends independent operation, and 2026-05 for whole values.
+-- The calls as data: which are turned away, in what order, and what the others do. Document 01, 'Event words', 'Sends, refreshes, knobs', 'Readings', 'Display' and
+-- 'Who can be turned away'; document 02, 2026-03, for bit 20 and for what ends independent operation, and 2026-05 for whole values.
 use Rattle.std.specs.Prelude.{cond, ℕ, leb, ℤ, Result, Ok, Err}
 use Rattle.std.specs.Result.{result_and}
 use Rattle.std.specs.Int.Count.{count_trailing_zeros}
@@ -20,9 +20,6 @@ use Rattle.rules.specs.Steps.{acted}
 use Rattle.rules.specs.Turns.{turned}
 use Rattle.rules.specs.Readings.{received}
 use Rattle.rules.specs.Sends.{sent, refreshed}
-use Rattle.calls.specs.declared.reply.Display.{Display}
-use Rattle.calls.specs.declared.reply.Reply.{Reply}
-use Rattle.calls.specs.Displays.{shown}
 
 -- ---- who is turned away
 
@@ -74,27 +71,3 @@ left_by b (Err refusal) = b
 
 unfoldable pub next : Bench → Call → Bench
 next b c = left_by b (granted b c)
-
--- ---- what a call answers: its refusal, or else
-
--- the number of the event acted on, what the side shows, or that it is done
-abbrev pub replied : Bench → Deed → Reply
-replied b (act n) = Reply.Event n
-replied b (turn k n) = Reply.Done
-replied b (keep r z) = Reply.Done
-replied b (send s) = Reply.Done
-replied b (refresh s) = Reply.Done
-replied b (show s) = Reply.Shown (shown b s)
-
-abbrev pub reply : Bench → Call → Result Reply Refusal
-reply b c = result_map (replied b) (granted b c)
-
--- ---- the same of the two calls that answer something, by themselves
-
--- an event: the number acted on, or 32 for none
-abbrev pub event_answer : Bench → ℕ → Result ℕ Refusal
-event_answer b word = cond (sound b) (word_event word) (Err Refusal.UnsoundBench)
-
--- a display: what the side shows
-abbrev pub display_answer : Bench → ℕ → Result Display Refusal
-display_answer b s = cond (sound b) (result_map (shown b) (side_of s)) (Err Refusal.UnsoundBench)
