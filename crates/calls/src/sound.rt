@@ -148,6 +148,17 @@ impl Model for JudgedBench {
     ghost invariant = { λ j. j.is_sound ≡ sound j.bench };
 }
 
+impl From<SoundBench> for JudgedBench {
+    ghost from_gives = { λ known judged. judged ≡ known };
+
+    fn from(known: SoundBench) -> JudgedBench {
+        JudgedBench {
+            bench: known.bench,
+            is_sound: true,
+        }
+    }
+}
+
 impl JudgedBench {
     ghost use Rattle.bench.specs.declared.call.Call.{Call};
     ghost use Rattle.rules.specs.Calls.{next};

@@ -13,11 +13,24 @@ ghost use Rattle.replay.specs.Flights.{flight, PageTwelve};
 use bench::Bench;
 use bench::call::Call;
 use calls::reply::Reply;
+use calls::sound::JudgedBench;
 use guidance::Laws;
 use refusals::Refusal;
 
 // Makes calls one after the other, each on the bench that the one before it left, and puts the answer of each into its
-// place. Calls that have no place are not made, and places that have no call stay.
+// place.
+fn make(b: &mut JudgedBench, calls: &[Call], answers: &mut [Result<Reply, Refusal>])
+    ensures bench { b.new ≡ after b.old (made calls.now answers.old) }
+    ensures answers { answers.new ≡ replies b.old (made calls.now answers.old) ++ drop (length calls.now) answers.old }
+{
+    let count = calls.len().min(answers.len());
+    for i in 0..count {
+        answers[i] = b.apply(calls[i]);
+    }
+}
+
+// Makes calls on any bench, which is judged once. Calls that have no place for their answer are not made, and places that
+// have no call stay.
 pub fn run(b: &mut Bench, calls: &[Call], answers: &mut [Result<Reply, Refusal>])
     ensures bench { b.new ≡ after b.old (made calls.now answers.old) }
     ensures answers { answers.new ≡ replies b.old (made calls.now answers.old) ++ drop (length calls.now) answers.old }
@@ -26,10 +39,9 @@ pub fn run(b: &mut Bench, calls: &[Call], answers: &mut [Result<Reply, Refusal>]
     ensures from_sound { sound b.old ≡ true → ClaimFrom b.old (made calls.now answers.old) }
     ensures from_unsound { sound b.old ≡ false → Refused b.old (made calls.now answers.old) }
 {
-    let count = calls.len().min(answers.len());
-    for i in 0..count {
-        answers[i] = calls::apply(b, calls[i]);
-    }
+    let mut judged = JudgedBench::of(*b);
+    make(&mut judged, calls, answers);
+    *b = judged.bench();
 }
 
 // A start and the calls after it: whether the start was accepted, the bench in the end, and what the picker then answers
@@ -55,11 +67,13 @@ pub fn fly(speed: i32, calls: &[Call], answers: &mut [Result<Reply, Refusal>]) -
     // demand 3, which means by power-on the start that was made
     ensures demand_3 { Claim (started speed).bench (made calls.now answers.old) }
 {
-    let start = bench::starts::start(speed);
-    let mut bench = start.bench;
-    run(&mut bench, calls, answers);
+    let start = calls::sound::start(speed);
+    let started = start.outcome;
+    let mut judged = JudgedBench::from(start.bench);
+    make(&mut judged, calls, answers);
+    let bench = judged.bench();
     Flight {
-        started: start.outcome,
+        started,
         bench,
         left: guidance::pick(&bench, 0),
         right: guidance::pick(&bench, 1),

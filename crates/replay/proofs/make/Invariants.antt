@@ -1,7 +1,7 @@
--- `replay::run`: so many calls were made, and their answers stand in their places.
+-- `replay::make`: so many calls were made, and their answers stand in their places.
 use Rattle.std.proofs.Common.{◌≡◌, ◌++◌, take, drop}
 use Rattle.claim.specs.Lists.{after, replies}
-use Rattle.replay.proofs.run.Given as goal
+use Rattle.replay.proofs.make.Given as goal
 
 abbrev pub invariant-loop-i : goal.invariant-loop-i
 invariant-loop-i l = record {
