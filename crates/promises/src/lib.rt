@@ -7,15 +7,17 @@ ghost use Rattle.rounding.specs.Laws.{WholeLaws};
 ghost use Rattle.rounding.specs.Sheet.{SheetWhole, Edges};
 ghost use Rattle.rotation.specs.Laws.{RotationLaws};
 ghost use Rattle.rotation.specs.Sheet.{SheetKnobs};
+ghost use Rattle.sides.specs.Laws.{SideLaws, PairLaws};
 ghost use Rattle.modes.specs.declared.ModeSet.{ModeSet};
 ghost use Rattle.modes.specs.Laws.{ModeLaws};
 ghost use Rattle.codes.specs.Laws.{CodeLaws};
 ghost use Rattle.codes.specs.Poster.{PosterLaws};
-ghost use Rattle.bench.specs.Laws.{PartLaws};
+ghost use Rattle.feed.specs.Wholes.{ReadingLaws, ReadingExamples, PutLaws};
+ghost use Rattle.channels.specs.declared.Channel.{Channel};
+ghost use Rattle.channels.specs.Laws.{ReferenceLaws, EntryLaws, ChannelLaws};
+ghost use Rattle.bench.specs.Laws.{CountLaws, ActingLaws};
 ghost use Rattle.bench.specs.Starts.{StartLaws};
-ghost use Rattle.bench.specs.Wholes.{ReadingLaws, ReadingExamples};
 ghost use Rattle.frames.specs.Laws.{FrameLaws, FrameExamples};
-ghost use Rattle.steps.specs.Laws.{EntryLaws};
 ghost use Rattle.soundness.specs.Kept.{KeepsSound, LawsInRange};
 ghost use Rattle.soundness.specs.Lowest.{NamesLowest};
 ghost use Rattle.soundness.specs.Feed.{FeedLaws};
@@ -54,9 +56,20 @@ pub fn promises_hold()
     ensures laws_in_range { (s : ModeSet) → LawsInRange s }
     ensures names_lowest { (w : ℕ) → NamesLowest w }
 
-    // 107 coherent sets, changes that keep coherence, events and their numbers; the parts of a bench
+    // 107 coherent sets, changes that keep coherence, events and their numbers
     ensures mode_laws { ModeLaws }
-    ensures part_laws { PartLaws }
+
+    // the parts of a bench: what is put in a side's, a reference's, a reading's or a count's place is read there, and the
+    // others stay
+    ensures side_laws { SideLaws }
+    ensures pair_laws { PairLaws Channel }
+    ensures reference_laws { ReferenceLaws }
+    ensures put_laws { PutLaws }
+    ensures count_laws { CountLaws }
+
+    // which sides act, and that a rule is made on those; whatever it reads, a side's rule keeps its channel sound
+    ensures acting_laws { ActingLaws }
+    ensures channel_laws { ChannelLaws }
 
     // which starting speeds are accepted, what an accepted and a refused start give, and that the reading is exactly the speed
     ensures start_laws { StartLaws }

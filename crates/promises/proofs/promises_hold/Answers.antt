@@ -9,11 +9,15 @@ use Rattle.guidance.proofs.Picks.{pick_laws}
 use Rattle.soundness.proofs.Kept.{keeps_sound, laws_in_range}
 use Rattle.soundness.proofs.Lowest.{names}
 use Rattle.modes.proofs.Laws.{mode_laws}
-use Rattle.bench.proofs.Replaced.{part_laws}
+use Rattle.sides.proofs.Laws.{side_laws, pair_laws}
+use Rattle.feed.proofs.WholeLaws.{reading_laws, reading_examples}
+use Rattle.feed.proofs.Put.{put_laws}
+use Rattle.channels.proofs.Read.{reference_laws}
+use Rattle.channels.proofs.Sound.{channel_laws}
+use Rattle.bench.proofs.Laws.{count_laws, acting_laws}
 use Rattle.bench.proofs.StartLaws.{start_laws}
-use Rattle.bench.proofs.WholeLaws.{reading_laws, reading_examples}
 use Rattle.soundness.proofs.Feed.{feed_laws}
-use Rattle.steps.proofs.Rounded.{entry_laws}
+use Rattle.channels.proofs.Rounded.{entry_laws}
 use Rattle.codes.proofs.Laws.{code_laws}
 use Rattle.codes.proofs.Poster.{poster_laws}
 use Rattle.frames.proofs.Laws.{frame_laws, frame_examples}
@@ -63,8 +67,26 @@ returns-clause-names_lowest c = names
 pub returns-clause-mode_laws : goal.returns-clause-mode_laws
 returns-clause-mode_laws c = mode_laws
 
-pub returns-clause-part_laws : goal.returns-clause-part_laws
-returns-clause-part_laws c = part_laws
+pub returns-clause-side_laws : goal.returns-clause-side_laws
+returns-clause-side_laws c = side_laws
+
+pub returns-clause-pair_laws : goal.returns-clause-pair_laws
+returns-clause-pair_laws c = pair_laws
+
+pub returns-clause-reference_laws : goal.returns-clause-reference_laws
+returns-clause-reference_laws c = reference_laws
+
+pub returns-clause-put_laws : goal.returns-clause-put_laws
+returns-clause-put_laws c = put_laws
+
+pub returns-clause-count_laws : goal.returns-clause-count_laws
+returns-clause-count_laws c = count_laws
+
+pub returns-clause-acting_laws : goal.returns-clause-acting_laws
+returns-clause-acting_laws c = acting_laws
+
+pub returns-clause-channel_laws : goal.returns-clause-channel_laws
+returns-clause-channel_laws c = channel_laws
 
 pub returns-clause-start_laws : goal.returns-clause-start_laws
 returns-clause-start_laws c = start_laws
