@@ -4,6 +4,7 @@ use Rattle.std.specs.Prelude.{ℕ, ◌+◌, ◌%◌, Result, Ok}
 use Rattle.std.specs.Result.{result_and}
 use Rattle.refusals.specs.declared.Refusal.{Refusal}
 use Rattle.channels.specs.declared.knobs.Knob.{Knob}
+use Rattle.channels.specs.Turns.{knob_number}
 use Rattle.scripts.specs.Commands.{Asked}
 use Rattle.scripts.specs.declared.Command.{Command}
 use Rattle.bench.specs.declared.Bench.{Bench}
@@ -16,13 +17,6 @@ use Rattle.calls.specs.Answers.{reply}
 use Rattle.acts.specs.declared.Effect.{Effect}
 use Rattle.scripts.specs.declared.AreaAct.{AreaAct}
 use Rattle.acts.specs.Damage.{pf_damaged, independent_damaged, set_damaged, reference_damaged, reading_damaged, whole_damaged}
-
--- a call names a knob by its number
-abbrev pub knob_number : Knob → ℕ
-knob_number Knob.Wheel = 0
-knob_number Knob.Altitude = 1
-knob_number Knob.Speed = 2
-knob_number Knob.Heading = 3
 
 -- a knob that goes so many clicks from its last count, modulo 256, is turned to the count that it comes to
 abbrev pub clicked : Knob → ℕ → Bench → Call

@@ -17,16 +17,20 @@ pf_damaged n b = record b { shared = record b.shared { pf = n } }
 unfoldable pub independent_damaged : Bool → Bench → Bench
 independent_damaged on b = record b { shared = record b.shared { independent = on } }
 
--- another channel in a part of the bench, made of the one that is there
-abbrev pub part_damaged : Part → (Channel → Channel) → Bench → Bench
-part_damaged (Part.Side s) f b = record b { sides = with_at s (f (at s b.sides)) b.sides }
-part_damaged (Part.Inbox s) f b = record b { inboxes = with_at s (f (at s b.inboxes)) b.inboxes }
+-- what a part of the bench holds, and another channel in its place
+abbrev pub held : Part → Bench → Channel
+held (Part.Side s) b = at s b.sides
+held (Part.Inbox s) b = at s b.inboxes
+
+abbrev pub with_part : Part → Channel → Bench → Bench
+with_part (Part.Side s) c b = record b { sides = with_at s c b.sides }
+with_part (Part.Inbox s) c b = record b { inboxes = with_at s c b.inboxes }
 
 unfoldable pub set_damaged : Part → ModeSet → Bench → Bench
-set_damaged part set b = part_damaged part (λ c. record c { set = set }) b
+set_damaged part set b = with_part part (record (held part b) { set = set }) b
 
 unfoldable pub reference_damaged : Part → Reference → ℤ → Bench → Bench
-reference_damaged part name x b = part_damaged part (λ c. record c { references = with_reference name x c.references }) b
+reference_damaged part name x b = with_part part (record (held part b) { references = with_reference name x (held part b).references }) b
 
 -- a float, whose whole value stays what it was
 unfoldable pub reading_damaged : Reading → Bench → Bench

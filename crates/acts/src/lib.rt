@@ -4,30 +4,21 @@
 mod damage;
 
 ghost use Rattle.std.specs.Prelude.{◌≡◌};
-ghost use Rattle.acts.specs.Acts.{knob_number, clicked, effect_of, answer_to, bench_after};
+ghost use Rattle.acts.specs.Acts.{clicked, effect_of, answer_to, bench_after};
 
+use bench::Bench;
 use bench::call::Call;
-use bench::{Bench, starts};
 use calls::reply::Reply;
+use calls::sound::JudgedBench;
 use channels::knobs::Knob;
-use damage::{
-    damage_independent, damage_pf, damage_reading, damage_reference, damage_set, damage_whole,
-};
 use refusals::Refusal;
 use scripts::{AreaAct, Command, Mistake};
-
-// The number by which a call names a knob.
-fn knob_number(knob: Knob) -> u32
-    ensures { result ≡ knob_number knob }
-{
-    knob as u32
-}
 
 // The turn of a knob by so many clicks, modulo 256, from its last count.
 fn clicked(b: &Bench, knob: Knob, clicks: u8) -> Call
     ensures { result ≡ clicked knob clicks b.now }
 {
-    Call::Turn(knob_number(knob), b.counts.get(knob).wrapping_add(clicks))
+    Call::Turn(knob.number(), b.counts.get(knob).wrapping_add(clicks))
 }
 
 // What a command is for, beside its answer: it shows something, it can change the bench, it turns the watch on
@@ -77,7 +68,7 @@ pub fn effect_of(asked: Result<Command, Mistake>) -> Effect
 // Carries out a command on the bench, and answers what it came to. What only shows is asked for where its line is
 // written, and the bus area is no part of the bench.
 #[tactic(auto, unfolding(crate::specs::Acts::answer_to, crate::specs::Acts::bench_after))]
-pub fn answer_to(b: &mut Bench, asked: Result<Command, Mistake>) -> Result<Reply, Refusal>
+pub fn answer_to(b: &mut JudgedBench, asked: Result<Command, Mistake>) -> Result<Reply, Refusal>
     ensures answer { result ≡ answer_to asked b.old }
     ensures bench { b.new ≡ bench_after asked b.old }
 {
@@ -85,23 +76,23 @@ pub fn answer_to(b: &mut Bench, asked: Result<Command, Mistake>) -> Result<Reply
         return Ok(Reply::Done);
     };
     match command {
-        Command::Call(call) => return calls::apply(b, call),
+        Command::Call(call) => return b.apply(call),
         Command::Knob(knob, clicks) => {
-            let turn = clicked(b, knob, clicks);
-            return calls::apply(b, turn);
+            let turn = clicked(b.bench(), knob, clicks);
+            return b.apply(turn);
         }
         Command::Start(speed) => {
-            let started = starts::start(speed);
-            *b = started.bench;
-            return started.outcome.and(Ok(Reply::Done));
+            let start = calls::sound::start(speed);
+            *b = JudgedBench::from(start.bench);
+            return start.outcome.and(Ok(Reply::Done));
         }
-        Command::PowerOn => *b = starts::power_on(),
-        Command::DamagePf(n) => damage_pf(b, n),
-        Command::DamageReading(r) => damage_reading(b, r),
-        Command::DamageWhole(kind, x) => damage_whole(b, kind, x),
-        Command::DamageSet(part, set) => damage_set(b, part, set),
-        Command::DamageReference(part, name, x) => damage_reference(b, part, name, x),
-        Command::DamageIndependent(on) => damage_independent(b, on),
+        Command::PowerOn => *b = JudgedBench::from(calls::sound::power_on()),
+        Command::DamagePf(n) => damage::pf(b, n),
+        Command::DamageReading(r) => damage::reading(b, r),
+        Command::DamageWhole(kind, x) => damage::whole(b, kind, x),
+        Command::DamageSet(part, set) => damage::set(b, part, set),
+        Command::DamageReference(part, name, x) => damage::reference(b, part, name, x),
+        Command::DamageIndependent(on) => damage::independent(b, on),
         Command::Blank
         | Command::Pick(_)
         | Command::Bench

@@ -42,10 +42,10 @@ impl SoundBench {
         }
     }
 
-    pub fn bench(&self) -> Bench
-        ensures { result ≡ self.now }
+    pub fn bench(&self) -> &Bench
+        ensures { result.now ≡ self.now }
     {
-        self.bench
+        &self.bench
     }
 
     // The six calls, which answer and leave what those over any bench do.
@@ -173,10 +173,10 @@ impl JudgedBench {
         }
     }
 
-    pub fn bench(&self) -> Bench
-        ensures { result ≡ self.now }
+    pub fn bench(&self) -> &Bench
+        ensures { result.now ≡ self.now }
     {
-        self.bench
+        &self.bench
     }
 
     // A call that is data. An unsound bench refuses it with 1.

@@ -3,3 +3,4 @@ pub mod ByLaw
 pub mod Clicks
 pub mod Sound
 pub mod Rounded
+pub mod Named

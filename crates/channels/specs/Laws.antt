@@ -1,5 +1,6 @@
 -- What holds of references, of entry, and of the rules of one side. Here are the statements; the proofs are in proofs/.
-use Rattle.std.specs.Prelude.{◌≡◌, ◌≢◌, true, ℤ}
+use Rattle.std.specs.Prelude.{◌≡◌, ◌≢◌, ◌↔◌, true, ℕ, ◌≤◌, ℤ, Ok, Err}
+use Rattle.refusals.specs.declared.Refusal.{Refusal}
 use Rattle.modes.specs.declared.ModeSet.{ModeSet}
 use Rattle.modes.specs.declared.Event.{Event}
 use Rattle.modes.specs.Sets.{coherent_set}
@@ -16,12 +17,17 @@ use Rattle.channels.specs.References.{reference_at, with_reference}
 use Rattle.channels.specs.Sound.{channel_sound}
 use Rattle.channels.specs.Entry.{entry, enter}
 use Rattle.channels.specs.Rules.{after_event, after_refresh, taken}
-use Rattle.channels.specs.Turns.{after_turn}
+use Rattle.channels.specs.Turns.{knob_number, knob_of, after_turn}
 
 -- what was written is read back, and the other six stay
 pub record ReferenceLaws : Type 0 where
   pub read : (n : Reference) (x : ℤ) (r : References) → reference_at n (with_reference n x r) ≡ x
   pub stays : (n m : Reference) → n ≢ m → (x : ℤ) (r : References) → reference_at m (with_reference n x r) ≡ reference_at m r
+
+-- a knob's number names it, and no other number does; from 4 on a number is refused with 3
+pub record KnobLaws : Type 0 where
+  pub named : (n : ℕ) (k : Knob) → (knob_of n ≡ Ok k) ↔ (n ≡ knob_number k)
+  pub refused : (n : ℕ) → 4 ≤ n → knob_of n ≡ Err Refusal.UnknownKnob
 
 -- document 01: a newly engaged mode loads from the rounded reading, clamped to range
 unfoldable pub rounded_entry : Readings → ModeSet → ModeSet → References → References

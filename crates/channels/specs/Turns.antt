@@ -13,6 +13,12 @@ use Rattle.channels.specs.declared.references.Reference.{Reference}
 use Rattle.channels.specs.References.{range_of, reference_at, with_reference}
 use Rattle.channels.specs.Entry.{enter}
 
+abbrev pub knob_number : Knob → ℕ
+knob_number Knob.Wheel = 0
+knob_number Knob.Altitude = 1
+knob_number Knob.Speed = 2
+knob_number Knob.Heading = 3
+
 -- the knob of a number, and refusal 3 where it names none
 abbrev pub knob_of : ℕ → Result Knob Refusal
 knob_of n =

@@ -3,7 +3,7 @@ ghost use Rattle.std.specs.Prelude.{◌≡◌, ◌<◌, pos, ◌*ℤ◌};
 ghost use Rattle.std.specs.Int.Signed.{mag};
 ghost use Rattle.rotation.specs.Rotation.{rotation_of};
 ghost use Rattle.modes.specs.Sets.{PITCH, ALTSEL, engage, engaged_in, in_on};
-ghost use Rattle.channels.specs.Turns.{knob_of, moved, differ, reference_moved, pitched, wheel_turned, altitude_moved, altitude_turned, heading_turned, after_turn};
+ghost use Rattle.channels.specs.Turns.{knob_number, knob_of, moved, differ, reference_moved, pitched, wheel_turned, altitude_moved, altitude_turned, heading_turned, after_turn};
 
 use crate::references::{Reference, References};
 use crate::{Channel, Inputs};
@@ -32,6 +32,19 @@ impl TryFrom<u32> for Knob {
             2 => Ok(Knob::Speed),
             3 => Ok(Knob::Heading),
             _ => Err(Refusal::UnknownKnob),
+        }
+    }
+}
+
+impl Knob {
+    pub fn number(self) -> u32
+        ensures { result ≡ knob_number self }
+    {
+        match self {
+            Knob::Wheel => 0,
+            Knob::Altitude => 1,
+            Knob::Speed => 2,
+            Knob::Heading => 3,
         }
     }
 }

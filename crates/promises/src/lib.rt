@@ -14,7 +14,7 @@ ghost use Rattle.codes.specs.Laws.{CodeLaws};
 ghost use Rattle.codes.specs.Poster.{PosterLaws};
 ghost use Rattle.feed.specs.Wholes.{ReadingLaws, ReadingExamples, PutLaws};
 ghost use Rattle.channels.specs.declared.Channel.{Channel};
-ghost use Rattle.channels.specs.Laws.{ReferenceLaws, EntryLaws, ChannelLaws};
+ghost use Rattle.channels.specs.Laws.{ReferenceLaws, KnobLaws, EntryLaws, ChannelLaws};
 ghost use Rattle.bench.specs.Laws.{CountLaws, ActingLaws};
 ghost use Rattle.bench.specs.Starts.{StartLaws};
 ghost use Rattle.frames.specs.Laws.{FrameLaws, FrameExamples};
@@ -64,6 +64,7 @@ pub fn promises_hold()
     ensures side_laws { SideLaws }
     ensures pair_laws { PairLaws Channel }
     ensures reference_laws { ReferenceLaws }
+    ensures knob_laws { KnobLaws }
     ensures put_laws { PutLaws }
     ensures count_laws { CountLaws }
 

@@ -41,7 +41,7 @@ pub fn run(b: &mut Bench, calls: &[Call], answers: &mut [Result<Reply, Refusal>]
 {
     let mut judged = JudgedBench::of(*b);
     make(&mut judged, calls, answers);
-    *b = judged.bench();
+    *b = *judged.bench();
 }
 
 // A start and the calls after it: whether the start was accepted, the bench in the end, and what the picker then answers
@@ -71,7 +71,7 @@ pub fn fly(speed: i32, calls: &[Call], answers: &mut [Result<Reply, Refusal>]) -
     let started = start.outcome;
     let mut judged = JudgedBench::from(start.bench);
     make(&mut judged, calls, answers);
-    let bench = judged.bench();
+    let bench = *judged.bench();
     Flight {
         started,
         bench,

@@ -1,19 +1,10 @@
--- A line turns the knob that it names, and that by as many clicks as it says. Assumes nothing.
+-- A line turns a knob by as many clicks as it says. Assumes nothing.
 use Rattle.std.proofs.Common.{◌≡◌, ℕ, zero, suc, ◌+◌, ◌-◌, ◌%◌, ◌<◌, ◌≤◌, Bool, true, false, cond, ℤ, pos, negsuc, Ok, refl, ap, arith}
 use Rattle.rounding.specs.Whole.{signed_of}
 use Rattle.numerals.specs.Numbers.{clicks_back}
 use Rattle.rotation.specs.Rotation.{rotation_of}
 use Rattle.rotation.proofs.Signed.{sub_case, turned}
-use Rattle.channels.specs.declared.knobs.Knob.{Knob}
-use Rattle.channels.specs.Turns.{knob_of}
-use Rattle.acts.specs.Acts.{knob_number}
 use Rattle.sessions.specs.Laws.{added}
-
-pub named : (k : Knob) → knob_of (knob_number k) ≡ Ok k
-named Knob.Wheel = refl
-named Knob.Altitude = refl
-named Knob.Speed = refl
-named Knob.Heading = refl
 
 forward : (last n : ℕ) → last < 256 → n ≤ 127 → rotation_of last ((last + n) % 256) ≡ pos n
 forward last n h k =

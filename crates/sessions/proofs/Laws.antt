@@ -13,7 +13,7 @@ use Rattle.sessions.specs.Script.{lines_of, ending, asked, carried, carried_area
 use Rattle.sessions.specs.Sessions.{beginning, carried_out, after_line, with_byte, byte_taken, after_byte, after_end, fed, fed_all}
 use Rattle.sessions.specs.Laws.{SessionLaws}
 use Rattle.sessions.proofs.Lines.{split, after, after_nil, after_byte as after_line_byte}
-use Rattle.sessions.proofs.Clicks.{named, turns}
+use Rattle.sessions.proofs.Clicks.{turns}
 use Rattle.sessions.proofs.Kept.{line_does, one_more}
 use Rattle.sessions.proofs.Areas.{after_fits}
 
@@ -149,6 +149,5 @@ session_laws = record {
   whole = λ script. (split script).whole;
   no_end = λ script. (split script).free;
   no_end_last = λ script. (split script).free_last;
-  knob = named;
   turns = turns;
 }

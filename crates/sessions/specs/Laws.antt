@@ -4,9 +4,6 @@ use mathlib.Core.List.{flatten}
 use Rattle.rounding.specs.Whole.{signed_of}
 use Rattle.numerals.specs.Numbers.{clicks_back}
 use Rattle.rotation.specs.Rotation.{rotation_of}
-use Rattle.channels.specs.declared.knobs.Knob.{Knob}
-use Rattle.channels.specs.Turns.{knob_of}
-use Rattle.acts.specs.Acts.{knob_number}
 use Rattle.sessions.specs.Script.{lines_of, all_lines, asked, bench_of, area_of, watch_of}
 use Rattle.sessions.specs.declared.Session.{Session}
 use Rattle.sessions.specs.Sessions.{beginning, carried_out, after_line, byte_taken, after_byte, after_end, fed_all}
@@ -44,7 +41,5 @@ pub record SessionLaws : Type 0 where
   pub whole : (script : List ℕ) → written (lines_of script).ended (lines_of script).last ≡ script
   pub no_end : (script : List ℕ) (k i : ℕ) → slice_index (slice_index_or (lines_of script).ended k []) i ≢ 10
   pub no_end_last : (script : List ℕ) (i : ℕ) → slice_index (lines_of script).last i ≢ 10
-  -- a knob line turns its knob
-  pub knob : (k : Knob) → knob_of (knob_number k) ≡ Ok k
-  -- by its clicks: back by 128 at most, or forward by 127
+  -- a knob is turned by the clicks that its line says: back by 128 at most, or forward by 127
   pub turns : (last : ℕ) (back : Bool) (n : ℕ) → last < 256 → n ≤ cond back 128 127 → rotation_of last ((last + added back n) % 256) ≡ signed_of back n

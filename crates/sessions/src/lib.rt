@@ -11,13 +11,14 @@ ghost use Rattle.sessions.specs.Sessions.{beginning, carried_out, after_line, go
 use arrayvec::ArrayVec;
 use bench::Bench;
 use calls::reply::Reply;
+use calls::sound::JudgedBench;
 use refusals::Refusal;
 use scripts::{Command, Mistake};
 
 // What is kept from one byte of a script to the next.
 #[derive(Clone, Drop)]
 pub struct Session {
-    pub bench: Bench,
+    bench: JudgedBench,
     // line ends so far, modulo 2^64
     pub lines: u64,
     // the bytes of the line that is being read; a line that fills its room is too long
@@ -65,12 +66,18 @@ impl Session {
         ensures { result ≡ beginning }
     {
         Session {
-            bench: bench::starts::power_on(),
+            bench: JudgedBench::from(calls::sound::power_on()),
             lines: 0,
             line: ArrayVec::new(),
             watch: false,
             area: ArrayVec::new(),
         }
+    }
+
+    pub fn bench(&self) -> &Bench
+        ensures { result.now ≡ self.now.bench }
+    {
+        self.bench.bench()
     }
 
     // The bytes of the bus area.
@@ -91,7 +98,7 @@ impl Session {
         let act = effects::area_act(effect);
         let line = self.line.as_slice();
         // the area is given the bench as it came
-        let done = areas::answer_in(act, asked, line, &self.bench, &mut self.area);
+        let done = areas::answer_in(act, asked, line, self.bench.bench(), &mut self.area);
         let answer = acts::answer_to(&mut self.bench, asked);
         let drawn = effects::is_drawn(effect, self.watch);
         self.lines = self.lines.wrapping_add(1);

@@ -13,6 +13,7 @@ use Rattle.sides.proofs.Laws.{side_laws, pair_laws}
 use Rattle.feed.proofs.WholeLaws.{reading_laws, reading_examples}
 use Rattle.feed.proofs.Put.{put_laws}
 use Rattle.channels.proofs.Read.{reference_laws}
+use Rattle.channels.proofs.Named.{knob_laws}
 use Rattle.channels.proofs.Sound.{channel_laws}
 use Rattle.bench.proofs.Laws.{count_laws, acting_laws}
 use Rattle.bench.proofs.StartLaws.{start_laws}
@@ -75,6 +76,9 @@ returns-clause-pair_laws c = pair_laws
 
 pub returns-clause-reference_laws : goal.returns-clause-reference_laws
 returns-clause-reference_laws c = reference_laws
+
+pub returns-clause-knob_laws : goal.returns-clause-knob_laws
+returns-clause-knob_laws c = knob_laws
 
 pub returns-clause-put_laws : goal.returns-clause-put_laws
 returns-clause-put_laws c = put_laws
