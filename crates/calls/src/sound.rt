@@ -12,7 +12,7 @@ use feed::Reading;
 use refusals::Refusal;
 use std::marker::Model;
 
-#[derive(Drop)]
+#[derive(Clone, Drop)]
 pub struct SoundBench {
     bench: Bench,
 }
@@ -106,7 +106,7 @@ impl SoundBench {
 }
 
 // A start that names its speed, as `bench::starts::start`: either way it gives a sound bench.
-#[derive(Drop)]
+#[derive(Clone, Drop)]
 pub struct SoundStart {
     pub outcome: Result<(), Refusal>,
     pub bench: SoundBench,
@@ -134,7 +134,7 @@ pub fn power_on() -> SoundBench
 }
 
 // Any bench, judged once, when it was put here: its calls judge it no more.
-#[derive(Drop)]
+#[derive(Clone, Drop)]
 pub struct JudgedBench {
     bench: Bench,
     is_sound: bool,
