@@ -7,9 +7,9 @@ use borrow.Author.Tests.{leb-true}
 use lib.Dec.{T, ltb, leb→le, ltb→lt}
 use lib.IntN.{ℤ, pos, negsuc, neg_ℤ, nat_abs, ◌+ℤ◌, ◌-ℤ◌, +ℤ-neg_ℤ_cancel, -ℤ-+ℤ_cancel}
 use lib.Signed.{le_z}
-use Rattle.std.specs.Prelude.{Result, Ok, Err, unsigned_abs}
+use Rattle.std.specs.Prelude.{Result, Ok, Err}
 use Rattle.std.specs.Result.{OkIff, result_unwrap_or}
-use Rattle.std.specs.Int.{FitsUnsignedBits, from_bool, int_min}
+use Rattle.std.specs.Int.{FitsUnsignedBits, from_bool}
 use Rattle.modes.specs.Every.{flag_number}
 use Rattle.rotation.proofs.Signed.{sub_case}
 use Rattle.refusals.proofs.Choices.{and_left, and_right}
@@ -33,10 +33,6 @@ natural_by (negsuc n) (Err e) h none = refl
 pub flag_byte : (f : Bool) → from_bool f ≡ flag_number f
 flag_byte true = refl
 flag_byte false = refl
-
--- what the range of a reference has below 0
-pub range_below : (n : Reference) → unsigned_abs (int_min (range_of n).low (pos 0)) ≡ added n
-range_below n = by_reference (λ n. unsigned_abs (int_min (range_of n).low (pos 0)) ≡ added n) refl refl refl refl refl refl refl n
 
 -- ---- there and back
 
