@@ -4,7 +4,7 @@
 //
 // Arguments, in decimal: a seed; how many calls; a kind of call, 6 for a mixed list, 7 for writes of
 // frames or 8 for reads; and 1, or 0 to make the list and its sum without the calls, which is the time
-// that the calls do not take.
+// that the calls do not take. With 2 the calls are those of a bench that is known to be sound.
 #![tactic(auto)]
 
 mod bus;
@@ -13,18 +13,50 @@ mod list;
 
 use bench::Bench;
 use bench::call::Call;
+use calls::reply::Reply;
+use calls::sound::SoundBench;
 use checksum::Sum;
+use refusals::Refusal;
 use std::io;
 use std::rt::Env;
 
+// A bench that a list of calls is made on.
+trait Called {
+    fn make(&mut self, call: Call) -> Result<Reply, Refusal>;
+
+    fn left(&self) -> Bench;
+}
+
+impl Called for Bench {
+    #[inline(always)]
+    fn make(&mut self, call: Call) -> Result<Reply, Refusal> {
+        calls::apply(self, call)
+    }
+
+    fn left(&self) -> Bench {
+        *self
+    }
+}
+
+impl Called for SoundBench {
+    #[inline(always)]
+    fn make(&mut self, call: Call) -> Result<Reply, Refusal> {
+        self.apply(call)
+    }
+
+    fn left(&self) -> Bench {
+        *self.bench()
+    }
+}
+
 // The bench after some calls, and the checksum of their arguments and answers.
-#[derive(Clone, Copy)]
-struct Run {
-    bench: Bench,
+#[derive(Drop)]
+struct Run<B> {
+    bench: B,
     sum: Sum,
 }
 
-impl Run {
+impl<B: Called + Drop> Run<B> {
     // One more call. Where LIVE is false no call is made, here and below.
     fn step<const LIVE: bool>(&mut self, call: Call) {
         self.sum = self.sum.with_call(call);
@@ -32,18 +64,15 @@ impl Run {
             self.sum = self.sum.with_no_answer(call);
             return;
         }
-        let answer = calls::apply(&mut self.bench, call);
+        let answer = self.bench.make(call);
         self.sum = self.sum.with_answer(call, answer);
     }
 }
 
 // The whole list, from its first bench. Answers the checksum, with the bench at the end in it. The kind of
 // each call is in the sum too.
-fn run_list<const LIVE: bool>(seed: u64, calls: u64, chosen: u64) -> Sum {
-    let mut run = Run {
-        bench: bench::starts::power_on(),
-        sum: Sum(0),
-    };
+fn run_list<B: Called + Drop, const LIVE: bool>(bench: B, seed: u64, calls: u64, chosen: u64) -> Sum {
+    let mut run = Run { bench, sum: Sum(0) };
     let mut word = list::first(seed);
     for left in (1..=calls).rev() {
         let kind = list::kind(word, left, chosen);
@@ -51,7 +80,7 @@ fn run_list<const LIVE: bool>(seed: u64, calls: u64, chosen: u64) -> Sum {
         run.step::<LIVE>(list::call_of(kind, word));
         word = list::shuffled(word);
     }
-    run.sum.with_bench(run.bench)
+    run.sum.with_bench(run.bench.left())
 }
 
 // One more digit of a number in decimal. What is no digit is passed over, and so is what would
@@ -84,7 +113,7 @@ fn sum_of<const LIVE: bool>(seed: u64, calls: u64, chosen: u64) -> Sum {
     match chosen {
         7 => bus::write_list::<LIVE>(seed, calls),
         8 => bus::read_list::<LIVE>(seed, calls),
-        _ => run_list::<LIVE>(seed, calls, chosen),
+        _ => run_list::<Bench, LIVE>(bench::starts::power_on(), seed, calls, chosen),
     }
 }
 
@@ -95,6 +124,7 @@ fn main(rt: HostRuntime) -> io::Result<()> {
     let chosen = argument(&rt, 3);
     let Sum(sum) = match argument(&rt, 4) {
         1 => sum_of::<true>(seed, calls, chosen),
+        2 => run_list::<SoundBench, true>(calls::sound::power_on(), seed, calls, chosen),
         _ => sum_of::<false>(seed, calls, chosen),
     };
     println!(rt; "{sum}")

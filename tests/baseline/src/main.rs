@@ -1,6 +1,7 @@
 //! The benchmark: `speed PROGRAM [frames] [CALLS]` times the program of the crate `speed` and the
-//! baseline over the same lists and prints the two rates of each kind of call with their ratio, and
-//! then those of frames; with `frames` those alone. Both run as a process of their own, in turn:
+//! baseline over the same lists and prints the two rates of each kind of call with their ratio: of
+//! the calls over any bench, of those of a bench that is known to be sound, and of frames; with
+//! `frames` those alone. Both run as a process of their own, in turn:
 //! `speed --list SEED CALLS KIND LIVE` is the baseline's. The exit status is 1 where a checksum
 //! differs or a process fails.
 use baseline::list::{run, List, READS, WRITES};
@@ -23,6 +24,15 @@ const REPEATS: u64 = 20;
 /// A read judges no bench and is quick: its list is this many times longer, and gone through that
 /// many times less often.
 const READS_LONGER: u64 = 10;
+
+/// How the library makes the calls of a list, as its program has it for its last argument. The
+/// baseline makes them in one way.
+#[derive(Clone, Copy)]
+enum Calls {
+    Bare = 0,
+    AnyBench = 1,
+    SoundBench = 2,
+}
 
 /// The nanoseconds a call that the runs of one program took for one list: with the calls, and
 /// without them.
@@ -78,8 +88,8 @@ fn lengths(chosen: u64) -> (u64, u64) {
 }
 
 /// Runs a program over a list; answers its checksum and the nanoseconds that it took.
-fn timed(program: &PathBuf, first: &[&str], list: List) -> (String, f64) {
-    let numbers = [list.seed, list.calls, list.chosen, u64::from(list.live)];
+fn timed(program: &PathBuf, first: &[&str], list: List, how: u64) -> (String, f64) {
+    let numbers = [list.seed, list.calls, list.chosen, how];
     let mut command = Command::new(program);
     command.args(first).args(numbers.map(|n| n.to_string()));
     let start = Instant::now();
@@ -96,11 +106,17 @@ fn timed(program: &PathBuf, first: &[&str], list: List) -> (String, f64) {
 }
 
 /// One round over a list: the library, then the baseline. The two have to give one checksum.
-fn round(program: &PathBuf, list: List, library: &mut Vec<f64>, baseline: &mut Vec<f64>) {
+fn round(
+    program: &PathBuf,
+    list: List,
+    how: Calls,
+    library: &mut Vec<f64>,
+    baseline: &mut Vec<f64>,
+) {
     let own = env::current_exe().unwrap_or_else(|e| stop(&format!("no path of its own: {e}")));
-    let (sum, took) = timed(program, &[], list);
+    let (sum, took) = timed(program, &[], list, how as u64);
     library.push(took / list.calls as f64);
-    let (own_sum, own_took) = timed(&own, &["--list"], list);
+    let (own_sum, own_took) = timed(&own, &["--list"], list, u64::from(list.live));
     let (_, repeats) = lengths(list.chosen);
     baseline.push(own_took / (list.calls * repeats) as f64);
     if sum != own_sum {
@@ -152,7 +168,7 @@ fn print_head(what: &str) {
 
 /// All lists of some kinds in each round, so that what disturbs the machine for a while spoils one
 /// round of many lists and not all rounds of one.
-fn benchmark(program: &PathBuf, calls: u64, kinds: RangeInclusive<u64>, what: &str) {
+fn benchmark(program: &PathBuf, calls: u64, kinds: RangeInclusive<u64>, how: Calls, what: &str) {
     let mut library: [Times; 9] = Default::default();
     let mut baseline: [Times; 9] = Default::default();
     for _ in 0..ROUNDS {
@@ -170,8 +186,8 @@ fn benchmark(program: &PathBuf, calls: u64, kinds: RangeInclusive<u64>, what: &s
                 live: false,
                 ..live
             };
-            round(program, live, &mut theirs.live, &mut ours.live);
-            round(program, bare, &mut theirs.bare, &mut ours.bare);
+            round(program, live, how, &mut theirs.live, &mut ours.live);
+            round(program, bare, Calls::Bare, &mut theirs.bare, &mut ours.bare);
         }
     }
     print_head(what);
@@ -182,10 +198,13 @@ fn benchmark(program: &PathBuf, calls: u64, kinds: RangeInclusive<u64>, what: &s
     println!("Every checksum of the library is the baseline's.");
 }
 
-/// The six calls, and all of them mixed.
+/// The six calls, and all of them mixed: over any bench, and of one that is known to be sound.
 fn benchmark_calls(program: &PathBuf, calls: u64) {
     let what = format!("{calls} calls a list, gone through {REPEATS} times by the baseline");
-    benchmark(program, calls, 0..=6, &what);
+    benchmark(program, calls, 0..=6, Calls::AnyBench, &what);
+    println!();
+    let what = format!("{what}; the library's bench is known to be sound");
+    benchmark(program, calls, 0..=6, Calls::SoundBench, &what);
 }
 
 /// Frames, written and read.
@@ -195,7 +214,7 @@ fn benchmark_frames(program: &PathBuf, calls: u64) {
     let what = format!(
         "{calls} writes and {reads} reads, gone through {REPEATS} and {repeats} times by the baseline"
     );
-    benchmark(program, calls, WRITES..=READS, &what);
+    benchmark(program, calls, WRITES..=READS, Calls::AnyBench, &what);
 }
 
 /// The baseline's own process: the list, time and again.
