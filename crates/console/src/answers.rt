@@ -18,14 +18,14 @@ pub(crate) fn put_answer(out: &mut Outlet, taken: &Taken, session: &Session) -> 
         Err(mistake) => writeln!(out, "error {}: {}", session.lines, reason(mistake))?,
     }
     if taken.drawn {
-        write!(out, "{}", Panels(&session.bench))?;
+        write!(out, "{}", Panels(session.bench()))?;
     }
     Ok(())
 }
 
 // In a line of its own or more.
 fn put_reply(out: &mut Outlet, taken: &Taken, command: Command, session: &Session) -> fmt::Result {
-    let bench = &session.bench;
+    let bench = session.bench();
     let refusal = refusal_number(&taken.answer);
     match command {
         Command::Blank => Ok(()),
