@@ -71,7 +71,12 @@ impl<B: Called + Drop> Run<B> {
 
 // The whole list, from its first bench. Answers the checksum, with the bench at the end in it. The kind of
 // each call is in the sum too.
-fn run_list<B: Called + Drop, const LIVE: bool>(bench: B, seed: u64, calls: u64, chosen: u64) -> Sum {
+fn run_list<B: Called + Drop, const LIVE: bool>(
+    bench: B,
+    seed: u64,
+    calls: u64,
+    chosen: u64,
+) -> Sum {
     let mut run = Run { bench, sum: Sum(0) };
     let mut word = list::first(seed);
     for left in (1..=calls).rev() {
