@@ -82,6 +82,7 @@ pub fn other_side(pf: u32) -> u32
 }
 
 // Whether both channels of a pair are sound.
+#[inline(always)]
 fn both_sound(channels: &Pair<Channel>) -> bool
     ensures { result ≡ both_sound channels.now }
 {

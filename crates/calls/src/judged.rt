@@ -41,6 +41,7 @@ fn end_independent(b: &mut Bench)
     b.shared.independent = b.shared.independent && b.both_approach();
 }
 
+#[inline(always)]
 pub(crate) fn event(b: &mut Bench, word: u32) -> Result<u32, Refusal>
     ensures answer { result ≡ word_event word }
     ensures bench { b.new ≡ left_by b.old (asked (Call.Event word)) }
@@ -51,6 +52,7 @@ pub(crate) fn event(b: &mut Bench, word: u32) -> Result<u32, Refusal>
     Ok(number)
 }
 
+#[inline(always)]
 pub(crate) fn turn(b: &mut Bench, knob: u32, new: u8) -> Result<(), Refusal>
     ensures answer { result ≡ result_and (asked (Call.Turn knob new)) (Ok tt) }
     ensures bench { b.new ≡ left_by b.old (asked (Call.Turn knob new)) }
@@ -61,6 +63,7 @@ pub(crate) fn turn(b: &mut Bench, knob: u32, new: u8) -> Result<(), Refusal>
     Ok(())
 }
 
+#[inline(always)]
 pub(crate) fn reading(b: &mut Bench, r: Reading) -> Result<(), Refusal>
     ensures answer { result ≡ result_and (asked (Call.Reading r)) (Ok tt) }
     ensures bench { b.new ≡ left_by b.old (asked (Call.Reading r)) }
@@ -71,6 +74,7 @@ pub(crate) fn reading(b: &mut Bench, r: Reading) -> Result<(), Refusal>
     Ok(())
 }
 
+#[inline(always)]
 pub(crate) fn send(b: &mut Bench, side: u32) -> Result<(), Refusal>
     ensures answer { result ≡ result_and (asked (Call.Send side)) (Ok tt) }
     ensures bench { b.new ≡ left_by b.old (asked (Call.Send side)) }
@@ -81,6 +85,7 @@ pub(crate) fn send(b: &mut Bench, side: u32) -> Result<(), Refusal>
     Ok(())
 }
 
+#[inline(always)]
 pub(crate) fn refresh(b: &mut Bench, side: u32) -> Result<(), Refusal>
     ensures answer { result ≡ result_and (asked (Call.Refresh side)) (Ok tt) }
     ensures bench { b.new ≡ left_by b.old (asked (Call.Refresh side)) }
@@ -91,6 +96,7 @@ pub(crate) fn refresh(b: &mut Bench, side: u32) -> Result<(), Refusal>
     Ok(())
 }
 
+#[inline(always)]
 pub(crate) fn display(b: &Bench, side: u32) -> Result<Display, Refusal>
     ensures { result ≡ result_map (shown b.now) (side_of side) }
 {
@@ -99,6 +105,7 @@ pub(crate) fn display(b: &Bench, side: u32) -> Result<Display, Refusal>
 }
 
 // A call that is data. A display leaves the bench as it is, in which nothing is to be ended, since it is sound.
+#[inline(always)]
 pub(crate) fn apply(b: &mut Bench, call: Call) -> Result<Reply, Refusal>
     ensures answer { result ≡ result_map (replied b.old) (asked call) }
     ensures bench { sound b.old ≡ true → b.new ≡ left_by b.old (asked call) }

@@ -35,6 +35,7 @@ pub struct Inputs {
 impl Channel {
     // Whether the set is coherent and each reference in its range.
     #[tactic(auto, unfolding(crate::specs::Sound::channel_sound))]
+    #[inline(always)]
     pub fn is_sound(&self) -> bool
         ensures { result ≡ channel_sound self.now }
     {

@@ -61,8 +61,8 @@ impl References {
         }
     }
 
-    pub fn get(&self, name: Reference) -> i32
-        ensures { result ≡ reference_at name self.now }
+    pub fn get(self, name: Reference) -> i32
+        ensures { result ≡ reference_at name self }
     {
         match name {
             Reference::Heading => self.heading,
@@ -89,16 +89,18 @@ impl References {
         }
     }
 
-    fn is_in_range(&self, name: Reference) -> bool
-        ensures { result ≡ in_range name self.now }
+    #[inline(always)]
+    fn is_in_range(self, name: Reference) -> bool
+        ensures { result ≡ in_range name self }
     {
         is_within(name.range(), self.get(name))
     }
 
-    // Whether each reference is in its range.
+    // Whether each reference is in its range. They come by value, so that four of them are compared at once.
     #[tactic(auto, unfolding(crate::specs::Sound::references_sound))]
-    pub fn are_in_range(&self) -> bool
-        ensures { result ≡ references_sound self.now }
+    #[inline(always)]
+    pub fn are_in_range(self) -> bool
+        ensures { result ≡ references_sound self }
     {
         self.is_in_range(Reference::Heading)
             && self.is_in_range(Reference::Preselected)

@@ -16,12 +16,16 @@ pub fn send(b: &mut Bench, side: Side)
 pub fn refresh(b: &mut Bench, side: Side)
     ensures { b.new ≡ refreshed side b.old }
 {
-    let mut channel = b.sides.get(side);
     if b.acts(side) {
         let inputs = b.inputs(b.shared.overspeed, side);
-        channel.refresh(&inputs);
+        match side {
+            Side::Left => b.sides.left.refresh(&inputs),
+            Side::Right => b.sides.right.refresh(&inputs),
+        }
     } else {
-        channel.take_over(&b.inboxes.get(side));
+        match side {
+            Side::Left => b.sides.left.take_over(&b.inboxes.left),
+            Side::Right => b.sides.right.take_over(&b.inboxes.right),
+        }
     }
-    b.sides.put(side, channel);
 }

@@ -49,6 +49,7 @@ impl Sum {
     }
 
     // What a call answers: its refusal, and the event acted on or 32, or all that is shown.
+    #[inline(always)]
     pub(crate) fn with_answer(self, call: Call, answer: Result<Reply, Refusal>) -> Sum {
         let Told { refusal, value } = Told::of(beside_refusal(call), answer);
         match value {

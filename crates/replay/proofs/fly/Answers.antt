@@ -16,9 +16,9 @@ pub returns-clause-page_twelve : goal.returns-clause-page_twelve
 returns-clause-page_twelve c =
     let cs = made c.args.calls.now c.args.answers.now in
     let start : c.from-judged.result ≡ (started c.args.speed).bench = c.from-judged.ensures ∙ c.start-start.ensures.bench ∙ ap (λ (z : ℤ). (started z).bench) (same32 c.args.speed c.ranges.speed) in
-    let left : c.bench-bench.result ≡ after (started c.args.speed).bench cs = c.bench-bench.ensures ∙ c.make.ensures.bench ∙ ap (λ (b : Bench). after b cs) start in
-    let h : sound c.bench-bench.result ≡ true = rw left (sound_from (started c.args.speed).bench (start_sound c.args.speed) cs) in
-    record { left = rw c.pick.ensures (flies c.bench-bench.result h Side.Left); right = rw c.pick-2.ensures (flies c.bench-bench.result h Side.Right) }
+    let left : c.bench.result.now ≡ after (started c.args.speed).bench cs = c.bench.ensures ∙ c.make.ensures.bench ∙ ap (λ (b : Bench). after b cs) start in
+    let h : sound c.bench.result.now ≡ true = rw left (sound_from (started c.args.speed).bench (start_sound c.args.speed) cs) in
+    record { left = rw c.pick.ensures (flies c.bench.result.now h Side.Left); right = rw c.pick-2.ensures (flies c.bench.result.now h Side.Right) }
 
 pub returns-clause-demand_3 : goal.returns-clause-demand_3
 returns-clause-demand_3 c = claim c.args.speed _
