@@ -9,7 +9,7 @@ ghost use Rattle.acts.specs.Acts.{clicked, effect_of, answer_to, bench_after};
 use bench::Bench;
 use bench::call::Call;
 use calls::reply::Reply;
-use calls::sound::JudgedBench;
+use calls::sound::{JudgedBench, SoundStart};
 use channels::knobs::Knob;
 use refusals::Refusal;
 use scripts::{AreaAct, Command, Mistake};
@@ -82,7 +82,7 @@ pub fn answer_to(b: &mut JudgedBench, asked: Result<Command, Mistake>) -> Result
             return b.apply(turn);
         }
         Command::Start(speed) => {
-            let start = calls::sound::start(speed);
+            let start = SoundStart::at(speed);
             *b = JudgedBench::from(start.bench);
             return start.outcome.and(Ok(Reply::Done));
         }

@@ -1,7 +1,7 @@
 // A bench that is known to be sound: a start's, or one that was judged once. Its calls judge only their own arguments.
 ghost use Rattle.std.specs.Prelude.{◌≡◌, true, cond, Ok, Err};
 ghost use Rattle.bench.specs.declared.Bench.{Bench};
-ghost use Rattle.bench.specs.Holds.{power_on, started};
+ghost use Rattle.bench.specs.Holds.{power_on};
 ghost use Rattle.bench.specs.Sound.{sound};
 
 use crate::judged;
@@ -112,15 +112,18 @@ pub struct SoundStart {
     pub bench: SoundBench,
 }
 
-// A start at a speed in knots; one that is refused gives the default bench.
-pub fn start(speed: i32) -> SoundStart
-    ensures outcome { result.outcome ≡ (started speed).outcome }
-    ensures bench { result.bench ≡ (started speed).bench }
-{
-    let start = bench::starts::start(speed);
-    SoundStart {
-        outcome: start.outcome,
-        bench: SoundBench { bench: start.bench },
+impl SoundStart {
+    ghost use Rattle.calls.specs.Starts.{sound_started};
+
+    // At a speed in knots. One that is refused gives the default bench.
+    pub fn at(speed: i32) -> SoundStart
+        ensures { result ≡ sound_started speed }
+    {
+        let start = bench::starts::start(speed);
+        SoundStart {
+            outcome: start.outcome,
+            bench: SoundBench { bench: start.bench },
+        }
     }
 }
 

@@ -52,14 +52,14 @@ impl Knob {
 // How far a knob was turned: from -128 to 127 (`mag` of -128 is 127), so that a hundred times as much
 // fits.
 #[derive(Clone, Copy)]
-pub struct Rotation {
-    pub clicks: i32,
+struct Rotation {
+    clicks: i32,
     ghost small: { mag clicks < 128 },
 }
 
 impl Rotation {
     // From one count to another.
-    pub fn between(old: u8, new: u8) -> Rotation
+    fn between(old: u8, new: u8) -> Rotation
         ensures { result.clicks ≡ rotation_of old new }
     {
         Rotation {
@@ -167,11 +167,12 @@ impl Channel {
         self.references.heading = rotation::heading_add(self.references.heading, rotation.clicks);
     }
 
-    // A turn of a knob.
+    // A turn of a knob from one count to another.
     #[tactic(auto, unfolding(crate::specs::Turns::after_turn))]
-    pub fn turn(&mut self, knob: Knob, rotation: Rotation, inputs: &Inputs)
-        ensures { self.new ≡ after_turn knob rotation.clicks inputs.now self.old }
+    pub fn turn(&mut self, knob: Knob, old: u8, new: u8, inputs: &Inputs)
+        ensures { self.new ≡ after_turn knob (rotation_of old new) inputs.now self.old }
     {
+        let rotation = Rotation::between(old, new);
         match knob {
             Knob::Wheel => self.turn_wheel(rotation, inputs),
             Knob::Altitude => self.turn_altitude(rotation, inputs),

@@ -34,7 +34,7 @@ fn line(ap: Effect, flag: Effect, pf: Pf, pressed: Pressed, asks: Asks, change: 
 // The columns are AP, the overspeed flag, the pilot flying, whose FD switch is pressed, when a side that acts asks for FD On,
 // and the mode change. The last two events go through no steps, and their lines do nothing.
 #[inline(always)]
-pub fn line_of(event: Event) -> Line
+pub(crate) fn line_of(event: Event) -> Line
     ensures { meaning result ≡ line_of event }
 {
     match event {

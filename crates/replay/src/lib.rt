@@ -13,7 +13,7 @@ ghost use Rattle.replay.specs.Flights.{flight, PageTwelve};
 use bench::Bench;
 use bench::call::Call;
 use calls::reply::Reply;
-use calls::sound::JudgedBench;
+use calls::sound::{JudgedBench, SoundStart};
 use guidance::Laws;
 use refusals::Refusal;
 
@@ -67,7 +67,7 @@ pub fn fly(speed: i32, calls: &[Call], answers: &mut [Result<Reply, Refusal>]) -
     // demand 3, which means by power-on the start that was made
     ensures demand_3 { Claim (started speed).bench (made calls.now answers.old) }
 {
-    let start = calls::sound::start(speed);
+    let start = SoundStart::at(speed);
     let started = start.outcome;
     let mut judged = JudgedBench::from(start.bench);
     make(&mut judged, calls, answers);

@@ -166,7 +166,8 @@ fn silent_conversions(text: &str) -> Vec<String> {
         let says = if is("From") {
             gives(body, "from_gives", "")
         } else if is("TryFrom") {
-            has_one_error(text, body) && gives(body, "try_from_gives", "result_ok ")
+            gives(body, "try_from_gives", "")
+                || has_one_error(text, body) && gives(body, "try_from_gives", "result_ok ")
         } else {
             true
         };
@@ -397,9 +398,13 @@ mod tests {
         let good = "ghost try_from_gives = { λ n r. result_ok r ≡ f n };";
         assert_eq!(of("struct No;", good), Vec::<String>::new());
         assert_eq!(of("struct No(u32);", good).len(), 1);
+        // the whole result, whatever the error is
+        let whole = "ghost try_from_gives = { λ n r. r ≡ f n };";
+        assert_eq!(of("struct No;", whole), Vec::<String>::new());
+        assert_eq!(of("struct No(u32);", whole), Vec::<String>::new());
         let silent = [
             "",
-            "ghost try_from_gives = { λ n r. r ≡ f n };",
+            "ghost try_from_gives = { λ n r. r ≡ r };",
             "ghost try_from_gives = { λ n r. result_ok r ≡ result_ok r };",
             "ghost try_from_gives = { λ n r. ⊤ };",
             "ghost from_gives = { λ n r. result_ok r ≡ f n };",
