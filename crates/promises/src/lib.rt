@@ -18,6 +18,7 @@ ghost use Rattle.channels.specs.Laws.{ReferenceLaws, KnobLaws, EntryLaws, Channe
 ghost use Rattle.bench.specs.Laws.{CountLaws, ActingLaws};
 ghost use Rattle.bench.specs.Starts.{StartLaws};
 ghost use Rattle.frames.specs.Laws.{FrameLaws, FrameExamples};
+ghost use Rattle.rules.specs.Laws.{StaysLaws};
 ghost use Rattle.soundness.specs.Kept.{KeepsSound, LawsInRange};
 ghost use Rattle.soundness.specs.Lowest.{NamesLowest};
 ghost use Rattle.soundness.specs.Feed.{FeedLaws};
@@ -67,6 +68,9 @@ pub fn promises_hold()
     ensures knob_laws { KnobLaws }
     ensures put_laws { PutLaws }
     ensures count_laws { CountLaws }
+
+    // which parts an accepted call can change
+    ensures stays_laws { StaysLaws }
 
     // which sides act, and that a rule is made on those; whatever it reads, a side's rule keeps its channel sound
     ensures acting_laws { ActingLaws }

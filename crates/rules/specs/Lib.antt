@@ -3,4 +3,5 @@ pub mod Turns
 pub mod Sends
 pub mod Readings
 pub mod Calls
+pub mod Laws
 pub mod Private

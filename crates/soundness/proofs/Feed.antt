@@ -31,7 +31,8 @@ use Rattle.rules.specs.Steps.{first_step, three_steps}
 use Rattle.rules.specs.Turns.{counted, turned}
 use Rattle.rules.proofs.ByEvent.{by_event}
 use Rattle.rules.specs.Calls.{Deed, act, turn, keep, send, refresh, show, word_event, asked, granted, verdict, done, left_by, next}
-use Rattle.soundness.specs.Feed.{is_reading, SameFeed, FeedLaws}
+use Rattle.rules.specs.Laws.{SameFeed}
+use Rattle.soundness.specs.Feed.{is_reading, FeedLaws}
 use Rattle.soundness.proofs.Kept.{IfOk, named, next_sound}
 
 then : (b x y : Bench) → SameFeed b x → SameFeed x y → SameFeed b y

@@ -12,6 +12,7 @@ use Rattle.bench.specs.Acting.{on_acting}
 use Rattle.bench.specs.Sound.{sound}
 use Rattle.rules.specs.Steps.{first_step}
 use Rattle.rules.specs.Turns.{counted}
+use Rattle.rules.specs.Laws.{SameFeed}
 use Rattle.rules.specs.Calls.{verdict, next}
 
 abbrev pub is_reading : Call → Bool
@@ -21,11 +22,6 @@ is_reading (Call.Reading r) = true
 is_reading (Call.Send s) = false
 is_reading (Call.Refresh s) = false
 is_reading (Call.Display s) = false
-
--- x has the readings and the whole values of b
-pub record SameFeed (b x : Bench) : Type 0 where
-  pub readings : x.readings ≡ b.readings
-  pub wholes : x.wholes ≡ b.wholes
 
 pub record FeedLaws : Type 0 where
   -- a reading that is accepted leaves its float and its whole value together, and one that is refused leaves neither

@@ -6,6 +6,7 @@ use Rattle.claim.proofs.Sheet.{sheet}
 use Rattle.claim.proofs.Independent.{independent_laws}
 use Rattle.replay.proofs.Flights.{guides_from}
 use Rattle.guidance.proofs.Picks.{pick_laws}
+use Rattle.rules.proofs.Laws.{stays_laws}
 use Rattle.soundness.proofs.Kept.{keeps_sound, laws_in_range}
 use Rattle.soundness.proofs.Lowest.{names}
 use Rattle.modes.proofs.Laws.{mode_laws}
@@ -85,6 +86,9 @@ returns-clause-put_laws c = put_laws
 
 pub returns-clause-count_laws : goal.returns-clause-count_laws
 returns-clause-count_laws c = count_laws
+
+pub returns-clause-stays_laws : goal.returns-clause-stays_laws
+returns-clause-stays_laws c = stays_laws
 
 pub returns-clause-acting_laws : goal.returns-clause-acting_laws
 returns-clause-acting_laws c = acting_laws
