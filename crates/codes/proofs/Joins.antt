@@ -1,33 +1,19 @@
--- The code that the program computes is the place in the list, and a set is what its laws and its armed sum show: each computed at once, over all sets.
--- Assumes nothing.
+-- There are 108 coded sets, and a set is what its laws and its armed sum show: computed at once, over all sets. Assumes nothing.
 use mathlib.Core.Path.{◌≡◌, refl, ap}
 use Prim.Native.Nat.{ℕ}
 use lib.Dec.{T}
 use lib.ListN.{length}
-use Rattle.modes.specs.declared.Modes.{Modes}
 use Rattle.modes.specs.declared.ModeSet.{ModeSet}
 use Rattle.modes.specs.Sets.{engaged, armed, cleared, once, coherent}
 use Rattle.modes.specs.Numbers.{lateral_law, vertical_law, armed_sum}
-use Rattle.modes.proofs.Every.{at_sets, same_modes_lem, agree_number}
-use Rattle.codes.specs.Codes.{coded_sets, same_set, code_of}
+use Rattle.modes.specs.Row.{coded_sets, same_set}
+use Rattle.modes.proofs.Every.{at_sets, same_modes_lem}
 use Rattle.codes.specs.Poster.{lateral_in, armed_sum_in, vertical_in}
-use Rattle.codes.specs.Private.{arithmetic, set_shown}
+use Rattle.codes.specs.Private.{set_shown}
 
 pub count : length coded_sets ≡ 108
 unfolding coded_sets coherent once cleared armed engaged
 count = refl
-
--- ---- from a set to its code
-
-pub off_code : code_of ModeSet.Off ≡ 0
-unfolding code_of coded_sets coherent once cleared armed engaged
-off_code = refl
-
-pub code_agrees : (m : Modes) → arithmetic m ≡ code_of (ModeSet.On m)
-unfolding code_of coded_sets coherent once cleared armed engaged
-code_agrees = agree_number arithmetic (λ m. code_of (ModeSet.On m)) tt
-
--- ---- from a code to its set
 
 pub same_set_lem : (s t : ModeSet) → T (same_set s t) → s ≡ t
 same_set_lem ModeSet.Off ModeSet.Off h = refl

@@ -12,11 +12,13 @@ use Rattle.std.specs.Prelude.{Some, None}
 use Rattle.std.proofs.lemmas.Option.{slice_get_past, slice_get-get_or}
 use Rattle.modes.specs.declared.ModeSet.{ModeSet}
 use Rattle.modes.specs.Sets.{engaged, armed, cleared, once, coherent, coherent_set}
+use Rattle.modes.specs.Row.{coded_sets, same_set, place_in, code_of}
 use Rattle.modes.proofs.Finite.{both_left, both_right}
 use Rattle.modes.proofs.Every.{at_sets}
-use Rattle.codes.specs.Codes.{coded_sets, same_set, place_in, code_of, set_of}
+use Rattle.modes.proofs.Joins.{off_code}
+use Rattle.codes.specs.Codes.{set_of}
 use Rattle.codes.specs.Laws.{OneSet, rank, CodeLaws}
-use Rattle.codes.proofs.Joins.{off_code, count, same_set_lem}
+use Rattle.codes.proofs.Joins.{count, same_set_lem}
 use Rattle.codes.proofs.Places.{every_from, at_place}
 
 -- the set at the place of a set in a list is that set

@@ -8,10 +8,11 @@ use Rattle.modes.specs.declared.ModeSet.{ModeSet}
 use Rattle.modes.specs.Sets.{NAV, LAPPR, ALTSEL, VAPPR, engaged, armed, cleared, once, coherent, coherent_set}
 use Rattle.modes.specs.Numbers.{lateral_law, vertical_law, armed_sum}
 use Rattle.modes.specs.Every.{every_set}
+use Rattle.modes.specs.Row.{coded_sets, code_of}
 use Rattle.modes.proofs.Finite.{both_left, both_right}
 use Rattle.modes.proofs.Every.{at_sets, agree_sets}
 use Rattle.std.specs.Prelude.{Some}
-use Rattle.codes.specs.Codes.{coded_sets, code_of, set_of}
+use Rattle.codes.specs.Codes.{set_of}
 use Rattle.codes.specs.Poster.{set_number, set_numbers, number_at, lateral_in, armed_sum_in, vertical_in, has_part, armed_in, Shows, OnePlace, PlaceOfSet, PosterLaws}
 use Rattle.codes.specs.Private.{set_shown}
 use Rattle.codes.proofs.Joins.{set_in, by_laws}

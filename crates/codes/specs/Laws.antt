@@ -4,7 +4,8 @@ use Rattle.modes.specs.declared.ModeSet.{ModeSet}
 use Rattle.modes.specs.Sets.{coherent_set}
 use Rattle.modes.specs.Numbers.{lateral_number, vertical_number}
 use Rattle.modes.specs.Every.{armed_number, flag_number}
-use Rattle.codes.specs.Codes.{coded_sets, code_of, set_of}
+use Rattle.modes.specs.Row.{coded_sets, code_of}
+use Rattle.codes.specs.Codes.{set_of}
 
 -- the one set that a code has
 pub record OneSet (n : ℕ) : Type 0 where

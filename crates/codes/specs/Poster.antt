@@ -4,7 +4,7 @@ use Rattle.std.specs.Prelude.{◌≡◌, Bool, false, List, map, ℕ, ◌+◌, �
 use Rattle.modes.specs.declared.ModeSet.{ModeSet}
 use Rattle.modes.specs.Sets.{Mode, NAV, LAPPR, ALTSEL, VAPPR, armed, coherent_set}
 use Rattle.modes.specs.Numbers.{lateral_law, vertical_law, armed_sum}
-use Rattle.codes.specs.Codes.{coded_sets, code_of}
+use Rattle.modes.specs.Row.{coded_sets, code_of}
 
 -- a set as one number
 abbrev pub set_number : ModeSet → ℕ

@@ -2,16 +2,13 @@
 #![tactic(auto)]
 
 ghost use Rattle.std.specs.Prelude.{◌≡◌};
-ghost use Rattle.codes.specs.Codes.{coded_sets, code_of, set_of};
+ghost use Rattle.codes.specs.Codes.{set_of};
 ghost use Rattle.codes.specs.Numbers.{lateral_by, armed_by, vertical_by, modes_by};
 ghost use Rattle.codes.specs.Poster.{set_numbers};
-ghost use Rattle.codes.specs.Private.{by_armed, first_code, single_place, double_place, place_beside, set_shown};
+ghost use Rattle.codes.specs.Private.{set_shown};
 
+pub use modes::row::set_code;
 use modes::{ArmedLateral, Lateral, ModeSet, Modes, Vertical};
-
-// The answer for a set that is not coherent: no set has this code. A frame has a code byte for any set, so this is a
-// number as the codes are.
-pub const NO_CODE: u32 = 108;
 
 // The sets by their codes: lateral law, vertical law and armed sum, a hexadecimal digit each.
 const SHOWN: [u16; 108] = [
@@ -25,92 +22,6 @@ const SHOWN: [u16; 108] = [
     0x550, 0x560, 0x584, 0x515, 0x525, 0x535, 0x541, 0x551, 0x561, 0x585, 0x51e, 0x52e, 0x53e,
     0x54a, 0x55a, 0x56a, 0x58e,
 ];
-
-// One of three numbers, by the armed lateral mode.
-fn by_armed(a: ArmedLateral, neither: u32, nav: u32, lappr: u32) -> u32
-    ensures { result ≡ by_armed a neither nav lappr }
-{
-    match a {
-        ArmedLateral::Neither => neither,
-        ArmedLateral::Nav => nav,
-        ArmedLateral::Lappr => lappr,
-    }
-}
-
-// The first code of the sets with these two lateral modes. Two pairs are in no coherent set.
-fn first_code(l: Lateral, a: ArmedLateral) -> u32
-    ensures { result ≡ first_code l a }
-{
-    match l {
-        Lateral::Roll => by_armed(a, 1, 8, 15),
-        Lateral::Hdg => by_armed(a, 22, 29, 36),
-        Lateral::Nav => by_armed(a, 43, NO_CODE, 50),
-        Lateral::Lappr => by_armed(a, 57, 72, NO_CODE),
-        Lateral::Lga => by_armed(a, 87, 94, 101),
-    }
-}
-
-// A vertical mode's place where each but VAPPR comes once.
-fn single_place(v: Vertical) -> u32
-    ensures { result ≡ single_place v }
-{
-    match v {
-        Vertical::Pitch => 0,
-        Vertical::Vs => 1,
-        Vertical::Flc => 2,
-        Vertical::Alt => 3,
-        Vertical::AltselCapture => 4,
-        Vertical::AltselTrack => 5,
-        Vertical::Vappr => NO_CODE,
-        Vertical::Vga => 6,
-    }
-}
-
-// Its first place where each but VAPPR comes twice, without VAPPR armed and with it.
-fn double_place(v: Vertical) -> u32
-    ensures { result ≡ double_place v }
-{
-    match v {
-        Vertical::Pitch => 0,
-        Vertical::Vs => 2,
-        Vertical::Flc => 4,
-        Vertical::Alt => 6,
-        Vertical::AltselCapture => 8,
-        Vertical::AltselTrack => 10,
-        Vertical::Vappr => 12,
-        Vertical::Vga => 13,
-    }
-}
-
-// The place of a set among those with its two lateral modes: beside LAPPR engaged VAPPR can be armed or not.
-fn place_beside(l: Lateral, v: Vertical, vappr_armed: bool) -> u32
-    ensures { result ≡ place_beside l v vappr_armed }
-{
-    match l {
-        Lateral::Roll | Lateral::Hdg | Lateral::Nav | Lateral::Lga => single_place(v),
-        Lateral::Lappr => double_place(v) + u32::from(vappr_armed),
-    }
-}
-
-// The code of an On set.
-fn modes_code(m: Modes) -> u32
-    ensures { result ≡ code_of (ModeSet.On m) }
-{
-    if !modes::sets::is_coherent(m) {
-        return NO_CODE;
-    }
-    first_code(m.lateral, m.armed) + place_beside(m.lateral, m.vertical, m.vappr_armed)
-}
-
-// The code of a set, from 0 to 107; 108 where the set is not coherent.
-pub fn set_code(s: ModeSet) -> u32
-    ensures { result ≡ code_of s }
-{
-    match s {
-        ModeSet::Off => 0,
-        ModeSet::On(m) => modes_code(m),
-    }
-}
 
 // The lateral mode of a law; LGA where the number is none's. Here and in the two below any number has a mode, while
 // the TryFrom of modes refuses one that is no mode's.

@@ -1,7 +1,7 @@
 -- The laws of frames, and the worked frames. Assumes nothing.
 use mathlib.Core.Path.{refl}
 use Rattle.modes.specs.Sets.{engaged, armed, cleared, once, coherent}
-use Rattle.codes.specs.Codes.{coded_sets, code_of}
+use Rattle.modes.specs.Row.{coded_sets, code_of}
 use Rattle.bench.specs.Holds.{start_channel, bench_at, power_on}
 use Rattle.frames.specs.Frames.{raised, frame_of}
 use Rattle.frames.specs.Laws.{FrameLaws, FrameExamples}

@@ -20,7 +20,8 @@ use Rattle.std.specs.Prelude.{Option, Some, None, Result, Ok, Err}
 use Rattle.refusals.specs.declared.Refusal.{Refusal}
 use Rattle.refusals.specs.Refusals.{number_of_refusal}
 use Rattle.refusals.specs.Told.{told}
-use Rattle.codes.specs.Codes.{code_of, set_of}
+use Rattle.modes.specs.Row.{code_of}
+use Rattle.codes.specs.Codes.{set_of}
 use Rattle.codes.proofs.Laws.{code_laws, decoded}
 use Rattle.channels.specs.declared.Channel.{Channel}
 use Rattle.channels.specs.declared.references.Reference.{Reference}

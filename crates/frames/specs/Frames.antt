@@ -7,7 +7,8 @@ use Rattle.sides.specs.declared.Side.{Side}
 use Rattle.sides.specs.Sides.{number, side_of, at}
 use Rattle.modes.specs.declared.ModeSet.{ModeSet}
 use Rattle.modes.specs.Every.{flag_number}
-use Rattle.codes.specs.Codes.{code_of, set_of}
+use Rattle.modes.specs.Row.{code_of}
+use Rattle.codes.specs.Codes.{set_of}
 use Rattle.channels.specs.declared.Channel.{Channel}
 use Rattle.channels.specs.declared.references.References.{References}
 use Rattle.channels.specs.declared.references.Reference.{Reference}

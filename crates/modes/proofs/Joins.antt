@@ -1,17 +1,19 @@
 -- What the code computes of a set and the paper's rules agree, each computed over all representable sets. Assumes nothing.
-use mathlib.Core.Path.{◌≡◌}
+use mathlib.Core.Path.{◌≡◌, refl}
 use mathlib.Core.Bool.{Bool, true, false, not, ◌&&◌, ◌||◌}
-use Prim.Native.Nat.{ℕ, ◌≤◌, ◌/◌, ◌^◌}
+use Prim.Native.Nat.{ℕ, ◌≤◌}
 use lib.Dec.{T, eqb, ltb}
-use lib.Bits.{bit_and, bit_or}
+use lib.Bits.{bit_or}
+use lib.ListN.{get_or}
 use native.Mathlib.Omega.{arith}
-use Rattle.modes.specs.declared.sets.TheConstants.{COHERENT}
+use Rattle.modes.specs.declared.row.TheConstants.{CODES}
 use Rattle.modes.specs.declared.Modes.{Modes}
 use Rattle.modes.specs.declared.ModeSet.{ModeSet}
 use Rattle.modes.specs.Every.{every_set, armed_number, same_flag}
 use Rattle.modes.specs.Sets.{Mode, HDG, NAV, LAPPR, VS, FLC, ALT, ALTSEL, VAPPR, arms_nav, arms_lappr, engaged, armed, cleared, once, coherent, engaged_in, approach_engaged, is_off}
 use Rattle.modes.specs.Numbers.{lateral_law, vertical_law, worth, armed_sum, mode_lamps}
-use Rattle.modes.specs.Private.{is_nav, is_lappr, bit_of, altsel_number, lateral_lamp, armed_lamp, vertical_lamp}
+use Rattle.modes.specs.Row.{coded_sets, code_of}
+use Rattle.modes.specs.Private.{is_nav, is_lappr, place_of, altsel_number, lateral_lamp, armed_lamp, vertical_lamp}
 use Rattle.modes.proofs.Every.{agree_test, agree_number, agree_sets}
 
 -- ---- tests
@@ -24,13 +26,20 @@ pub lappr_selected : (m : Modes) → (is_lappr m.lateral || arms_lappr m.armed) 
 unfolding cleared armed engaged
 lappr_selected = agree_test (λ m. is_lappr m.lateral || arms_lappr m.armed) (λ m. not (cleared LAPPR m)) tt
 
--- the bit that the code looks up
-abbrev looked_up : Modes → Bool
-looked_up m = eqb (bit_and (COHERENT / 2 ^ bit_of m) 1) 1
+-- ---- codes
 
-pub coherent_agrees : (m : Modes) → looked_up m ≡ coherent m
-unfolding coherent once cleared armed engaged
-coherent_agrees = agree_test looked_up coherent tt
+pub off_code : code_of ModeSet.Off ≡ 0
+unfolding code_of coded_sets coherent once cleared armed engaged
+off_code = refl
+
+-- the table has each set's code
+pub code_agrees : (m : Modes) → get_or CODES (place_of m) 0 ≡ code_of (ModeSet.On m)
+unfolding code_of coded_sets coherent once cleared armed engaged
+code_agrees = agree_number (λ m. get_or CODES (place_of m) 0) (λ m. code_of (ModeSet.On m)) tt
+
+pub coherent_agrees : (m : Modes) → not (eqb (code_of (ModeSet.On m)) 108) ≡ coherent m
+unfolding code_of coded_sets coherent once cleared armed engaged
+coherent_agrees = agree_test (λ m. not (eqb (code_of (ModeSet.On m)) 108)) coherent tt
 
 -- ---- numbers
 

@@ -1,11 +1,12 @@
 -- What the private functions of this crate compute, by their own cases. This is no part of the promise: the contracts of the public functions cite Sets, Numbers
 -- and Events, and computing over all sets shows that these agree with them.
-use Rattle.std.specs.Prelude.{Bool, true, false, ℕ, ◌+◌, ◌*◌}
+use Rattle.std.specs.Prelude.{Bool, true, false, ℕ, ◌+◌, ◌*◌, ◌-◌}
 use Rattle.modes.specs.declared.Lateral.{Lateral}
 use Rattle.modes.specs.declared.Vertical.{Vertical}
 use Rattle.modes.specs.declared.ArmedLateral.{ArmedLateral}
 use Rattle.modes.specs.declared.Modes.{Modes}
 use Rattle.modes.specs.Every.{armed_number, flag_number}
+use Rattle.modes.specs.Numbers.{vertical_number}
 
 -- ---- single modes
 
@@ -23,17 +24,7 @@ is_lappr Lateral.Nav = false
 is_lappr Lateral.Lappr = true
 is_lappr Lateral.Lga = false
 
-abbrev pub is_vappr : Vertical → Bool
-is_vappr Vertical.Pitch = false
-is_vappr Vertical.Vs = false
-is_vappr Vertical.Flc = false
-is_vappr Vertical.Alt = false
-is_vappr Vertical.AltselCapture = false
-is_vappr Vertical.AltselTrack = false
-is_vappr Vertical.Vappr = true
-is_vappr Vertical.Vga = false
-
--- ---- coherence: the bit that stands for a set in the code's constant
+-- ---- a set's place in the code's table
 
 -- the engaged lateral mode's place in the order of the laws
 abbrev pub lateral_place : Lateral → ℕ
@@ -43,8 +34,11 @@ lateral_place Lateral.Nav = 2
 lateral_place Lateral.Lappr = 3
 lateral_place Lateral.Lga = 4
 
-abbrev pub bit_of : Modes → ℕ
-bit_of m = lateral_place m.lateral * 12 + armed_number m.armed * 4 + (flag_number (is_vappr m.vertical) * 2 + flag_number m.vappr_armed)
+abbrev pub vertical_place : Vertical → ℕ
+vertical_place v = vertical_number v - 1
+
+abbrev pub place_of : Modes → ℕ
+place_of m = ((lateral_place m.lateral * 3 + armed_number m.armed) * 8 + vertical_place m.vertical) * 2 + flag_number m.vappr_armed
 
 -- ---- the parts of the armed sum and of the lamps, which the code joins by their bits
 

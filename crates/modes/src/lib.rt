@@ -2,6 +2,7 @@
 #![tactic(auto)]
 
 pub mod numbers;
+pub mod row;
 pub mod sets;
 
 // The engaged lateral mode.

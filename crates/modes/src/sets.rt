@@ -1,9 +1,10 @@
 // What a mode is in a set, and which sets are coherent.
 ghost use Rattle.std.specs.Prelude.{◌≡◌};
 ghost use Rattle.modes.specs.Sets.{HDG, NAV, LAPPR, VS, FLC, ALT, basic_modes, coherent, coherent_set, engaged_in, selected_in, approach_engaged};
-ghost use Rattle.modes.specs.Private.{is_nav, is_lappr, is_vappr, bit_of};
+ghost use Rattle.modes.specs.Private.{is_nav, is_lappr};
 
 use crate::numbers::{arms_lappr, arms_nav, lateral_law, vertical_law};
+use crate::row::{NO_CODE, modes_code};
 use crate::{ArmedLateral, Lateral, ModeSet, Modes, Vertical};
 
 // ROLL and PITCH with no mode armed but ALTSEL: the set of a side that comes on.
@@ -30,31 +31,12 @@ fn is_lappr(l: Lateral) -> bool
     matches!(l, Lateral::Lappr)
 }
 
-fn is_vappr(v: Vertical) -> bool
-    ensures { result ≡ is_vappr v }
-{
-    matches!(v, Vertical::Vappr)
-}
-
-// Which sets are coherent, a bit for each. Three digits each for LGA engaged, then LAPPR, NAV, HDG and ROLL: one for LAPPR armed,
-// then NAV armed and neither. In a digit 1 is VAPPR cleared, 2 armed, 4 engaged, 8 both.
-const COHERENT: u64 = 0x211_077_201_211_211;
-
-// The bit of COHERENT that stands for an On set.
-fn bit_of(m: Modes) -> u32
-    ensures { result ≡ bit_of m }
-{
-    m.lateral as u32 * 12
-        + m.armed as u32 * 4
-        + (u32::from(is_vappr(m.vertical)) * 2 + u32::from(m.vappr_armed))
-}
-
 // Whether an On set is coherent.
 #[tactic(auto, using(crate::proofs::Joins::coherent_agrees))]
 pub fn is_coherent(m: Modes) -> bool
     ensures { result ≡ coherent m }
 {
-    (COHERENT >> bit_of(m)) & 1 == 1
+    modes_code(m) != NO_CODE
 }
 
 // Whether a set is coherent; Off is.

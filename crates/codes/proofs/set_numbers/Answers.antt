@@ -2,7 +2,7 @@
 use Rattle.std.proofs.Common.{refl}
 use Rattle.modes.specs.Sets.{engaged, armed, cleared, once, coherent}
 use Rattle.modes.specs.Numbers.{armed_sum}
-use Rattle.codes.specs.Codes.{coded_sets}
+use Rattle.modes.specs.Row.{coded_sets}
 use Rattle.codes.specs.Poster.{set_numbers}
 use Rattle.codes.proofs.set_numbers.Goals as goal
 

@@ -3,7 +3,7 @@ use Rattle.std.proofs.Common.{◌≡◌, ◌<◌, sym, ap, ◌∙◌, arith}
 use Rattle.std.specs.Prelude.{Some}
 use Rattle.modes.specs.Sets.{engaged, armed, cleared, once, coherent}
 use Rattle.modes.specs.Numbers.{armed_sum}
-use Rattle.codes.specs.Codes.{coded_sets}
+use Rattle.modes.specs.Row.{coded_sets}
 use Rattle.codes.specs.Poster.{set_numbers, number_at}
 use Rattle.codes.proofs.Joins.{set_in}
 use Rattle.codes.proofs.Laws.{no_set}
