@@ -25,6 +25,7 @@ fn lamps_of(b: &Bench, side: Side) -> u32
 }
 
 #[tactic(auto, unfolding(crate::specs::Displays::shown))]
+#[inline(always)]
 pub(crate) fn show(b: &Bench, side: Side) -> Display
     ensures { result ≡ shown b.now side }
 {
