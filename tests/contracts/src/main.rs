@@ -10,9 +10,9 @@
 //!   beside those equations; and a function that has no parameter, no result and an empty body is there for its
 //!   theorems alone. A theorem is of any form and may mention the answer, since it takes nothing from the
 //!   equations. Each has a name, which no other clause of the function has;
-//! - an `impl From` says what it gives: `ghost from_gives = { λ x y. y ≡ .. }`, an equation of the same kind; an
-//!   `impl TryFrom`, whose error is a struct of this file without fields, so that there is one, says for which values
-//!   it gives what: `ghost try_from_gives = { λ x y. result_ok y ≡ .. }`;
+//! - an `impl From` says what it gives: `ghost from_gives = { λ x y. y ≡ .. }`, an equation of the same kind; so does an
+//!   `impl TryFrom`, of its whole result: `ghost try_from_gives = { λ x y. y ≡ .. }`; or, where its error is a struct of
+//!   this file without fields, so that there is one, for which values it gives what: `λ x y. result_ok y ≡ ..`;
 //! - `result` is what the function returns: no parameter, no ghost value and no variable of a clause is
 //!   called so, since the result would be captured, and the contract would say nothing;
 //! - `≡` is that of the library's Prelude or of mathlib.Core.Path, and no `ghost use` gives `⌜`, `⌝`,
