@@ -6,7 +6,7 @@ pub mod ranges;
 
 ghost use Rattle.std.specs.Prelude.{◌≡◌};
 ghost use Rattle.feed.specs.Ranges.{range_of};
-ghost use Rattle.feed.specs.Readings.{kind_of, of_kind, float_of, wrapped, whole_reading, feed_refusal, judged, reading_verdict, with_whole, stored};
+ghost use Rattle.feed.specs.Readings.{kind_of, of_kind, float_of, wrapped, whole_reading, feed_refusal, judged, reading_verdict, number_of, with_whole, stored};
 ghost use Rattle.feed.specs.Sound.{kept, readings_sound};
 ghost use Rattle.feed.specs.Private.{is_wrapped, reads_as};
 
@@ -179,6 +179,13 @@ fn judge(range: Range, whole: Result<i32, NoWhole>) -> Result<i32, Refusal>
     } else {
         Err(Refusal::OutOfRange)
     }
+}
+
+// A whole value as a number, and 0 where there is none: no such reading is accepted.
+pub fn number_of(whole: Result<i32, NoWhole>) -> i32
+    ensures { result ≡ number_of whole }
+{
+    whole.unwrap_or(0)
 }
 
 // The last readings, as they came.
