@@ -1,19 +1,25 @@
--- Entry by the numbers of the laws: a mode is newly engaged exactly where its law is shown and was not, and at most one on each axis is. Assumes nothing.
+-- Entry and turns by the numbers of the laws: a mode is newly engaged exactly where its law is shown and was not, and at most one on each axis is; a mode is engaged where its
+-- law is shown. Assumes nothing.
 use mathlib.Core.Path.{◌≡◌, refl, ap, ◌∙◌}
-use mathlib.Core.Bool.{Bool, true, false, not, ◌&&◌, cond}
+use mathlib.Core.Bool.{Bool, true, false, not, ◌&&◌, ◌||◌, cond}
 use Prim.Native.Nat.{ℕ, zero, suc}
 use native.Mathlib.Omega.{arith}
 use borrow.Author.Tests.{ne_eqb}
-use lib.Dec.{eqb}
+use lib.Dec.{eqb, ltb}
 use lib.IntN.{ℤ}
 use Rattle.modes.specs.declared.ModeSet.{ModeSet}
-use Rattle.modes.specs.Sets.{Mode, ROLL, PITCH, VS, FLC, ALT, engaged, engaged_in}
+use Rattle.modes.specs.Sets.{Mode, ROLL, PITCH, VS, FLC, ALT, ALTSEL, VAPPR, engaged, engaged_in}
 use Rattle.modes.specs.Numbers.{lateral_law, vertical_law}
-use Rattle.modes.proofs.Joins.{lateral_shown, vertical_shown}
-use Rattle.channels.specs.declared.references.References.{References}
+use Rattle.modes.proofs.Joins.{lateral_shown, vertical_shown, altsel_shown, off_shown}
 use Rattle.feed.specs.declared.Wholes.{Wholes}
+use Rattle.channels.specs.declared.Channel.{Channel}
+use Rattle.channels.specs.declared.Inputs.{Inputs}
+use Rattle.channels.specs.declared.knobs.Knob.{Knob}
+use Rattle.channels.specs.declared.references.References.{References}
 use Rattle.channels.specs.declared.references.Reference.{Reference}
 use Rattle.channels.specs.Entry.{newly, loaded, entry}
+use Rattle.channels.specs.Turns.{reference_moved, pitched, wheel_turned, altitude_moved, differ, altitude_turned, after_turn}
+use Rattle.channels.specs.Laws.{TurnLaws}
 use Rattle.channels.specs.Private.{lateral_entry, vertical_entry}
 
 -- a law is shown after, and was not before
@@ -81,3 +87,27 @@ module _ (k : Wholes) (before after : ModeSet) where
       (when (vertical_newly 2 VS (vertical_shown 2 VS tt) i) vs
       (when (vertical_newly 1 PITCH (vertical_shown 1 PITCH tt) i) pitch
       ((one_law (lateral_law before) roll (lateral_law after) r ∙ (λ j. when (lateral_newly 1 ROLL (lateral_shown 1 ROLL tt) j) roll r)) i)))))
+
+-- the wheel asks which law is shown
+pub wheel_by_law : (r : ℤ) (i : Inputs) (c : Channel) (law : ℕ) → law ≡ vertical_law c.set
+    → cond (eqb law 2) (reference_moved Reference.VerticalSpeed r c) (cond (eqb law 1) (reference_moved Reference.Pitch r c) (cond (eqb law 7 || eqb law 0) c (pitched i c)))
+    ≡ after_turn Knob.Wheel r i c
+unfolding after_turn wheel_turned engaged
+wheel_by_law r i c law h =
+    let test : (k : ℕ) → eqb law k ≡ eqb (vertical_law c.set) k = λ k. ap (λ (n : ℕ). eqb n k) h in
+    λ j. cond ((test 2 ∙ vertical_shown 2 VS tt c.set) j) (reference_moved Reference.VerticalSpeed r c)
+    (cond ((test 1 ∙ vertical_shown 1 PITCH tt c.set) j) (reference_moved Reference.Pitch r c)
+    (cond ((test 7 ∙ vertical_shown 7 VAPPR tt c.set) j || (test 0 ∙ off_shown c.set) j) c (pitched i c)))
+
+-- and so does the altitude knob
+pub altitude_by_law : (r : ℤ) (i : Inputs) (c : Channel) (law : ℕ) → law ≡ vertical_law c.set
+    → cond ((not (ltb law 5) && ltb law 7) && differ c.references.preselected (altitude_moved r c).references.preselected) (pitched i (altitude_moved r c)) (altitude_moved r c)
+    ≡ after_turn Knob.Altitude r i c
+unfolding after_turn altitude_turned
+altitude_by_law r i c law h =
+    let next = altitude_moved r c in
+    let test : (not (ltb law 5) && ltb law 7) ≡ engaged_in ALTSEL c.set = ap (λ (n : ℕ). not (ltb n 5) && ltb n 7) h ∙ altsel_shown c.set in
+    λ j. cond (test j && differ c.references.preselected next.references.preselected) (pitched i next) next
+
+pub turn_laws : TurnLaws
+turn_laws = record { wheel = wheel_by_law; altitude = altitude_by_law }

@@ -1,13 +1,16 @@
 -- What holds of references, of entry, and of the rules of one side. Here are the statements; the proofs are in proofs/.
-use Rattle.std.specs.Prelude.{◌≡◌, ◌≢◌, ◌↔◌, true, ℕ, ◌≤◌, ℤ, Ok, Err}
+use Rattle.std.specs.Prelude.{◌≡◌, ◌≢◌, ◌↔◌, true, not, ◌&&◌, ◌||◌, cond, [], ◌∷◌, map, ℕ, ◌≤◌, eqb, ltb, ℤ, pos, negsuc, Ok, Err}
 use Rattle.refusals.specs.declared.Refusal.{Refusal}
 use Rattle.modes.specs.declared.ModeSet.{ModeSet}
 use Rattle.modes.specs.declared.Event.{Event}
-use Rattle.modes.specs.Sets.{coherent_set}
+use Rattle.modes.specs.Sets.{ROLL}
+use Rattle.modes.specs.Numbers.{vertical_law}
+use Rattle.feed.specs.declared.Reading.{Reading}
 use Rattle.feed.specs.declared.Readings.{Readings}
 use Rattle.feed.specs.declared.Wholes.{Wholes}
-use Rattle.feed.specs.Readings.{wholes_of}
+use Rattle.feed.specs.Readings.{stored_whole, wholes_of}
 use Rattle.feed.specs.Sound.{readings_sound}
+use Rattle.feed.specs.Wholes.{reading_of}
 use Rattle.channels.specs.declared.Channel.{Channel}
 use Rattle.channels.specs.declared.Inputs.{Inputs}
 use Rattle.channels.specs.declared.knobs.Knob.{Knob}
@@ -15,9 +18,9 @@ use Rattle.channels.specs.declared.references.References.{References}
 use Rattle.channels.specs.declared.references.Reference.{Reference}
 use Rattle.channels.specs.References.{reference_at, with_reference}
 use Rattle.channels.specs.Sound.{channel_sound}
-use Rattle.channels.specs.Entry.{entry, enter}
+use Rattle.channels.specs.Entry.{newly, entry, enter}
 use Rattle.channels.specs.Rules.{after_event, after_refresh, taken}
-use Rattle.channels.specs.Turns.{knob_number, knob_of, after_turn}
+use Rattle.channels.specs.Turns.{knob_number, knob_of, reference_moved, pitched, altitude_moved, differ, after_turn}
 
 -- what was written is read back, and the other six stay
 pub record ReferenceLaws : Type 0 where
@@ -39,6 +42,28 @@ pub record EntryLaws : Type 0 where
   -- and so a channel takes another set with that entry
   pub enters : (w : Readings) (k : Wholes) → readings_sound w k ≡ true → (after : ModeSet) (c : Channel)
       → enter k after c ≡ record c { set = after; references = rounded_entry w c.set after c.references }
+
+-- what a roll reading leaves in the roll reference when a channel takes another set
+abbrev pub loaded_roll : Wholes → ModeSet → Channel → Reading → ℤ
+loaded_roll k after c r = (enter (stored_whole r k) after c).references.roll
+
+-- worked out, with each float read from its 64 bits
+pub record EntryExamples : Type 0 where
+  -- where ROLL is newly engaged, rolls 179.25, 179.75 and 180.0 load 27, -27 and -27
+  pub loaded : (k : Wholes) (after : ModeSet) (c : Channel) → newly ROLL c.set after ≡ true
+      → map (loaded_roll k after c) (map (reading_of Reading.Roll) (0x4066_6800_0000_0000 ∷ 0x4066_7800_0000_0000 ∷ 0x4066_8000_0000_0000 ∷ []))
+      ≡ pos 27 ∷ negsuc 26 ∷ negsuc 26 ∷ []
+
+-- the two knobs that ask which mode is engaged, by the number of the vertical law that the display shows
+pub record TurnLaws : Type 0 where
+  -- of the wheel: VS is law 2, PITCH 1 and VAPPR 7, and 0 is Off
+  pub wheel : (r : ℤ) (i : Inputs) (c : Channel) (law : ℕ) → law ≡ vertical_law c.set
+      → cond (eqb law 2) (reference_moved Reference.VerticalSpeed r c) (cond (eqb law 1) (reference_moved Reference.Pitch r c) (cond (eqb law 7 || eqb law 0) c (pitched i c)))
+      ≡ after_turn Knob.Wheel r i c
+  -- of the altitude knob: ALTSEL is law 5 or 6
+  pub altitude : (r : ℤ) (i : Inputs) (c : Channel) (law : ℕ) → law ≡ vertical_law c.set
+      → cond ((not (ltb law 5) && ltb law 7) && differ c.references.preselected (altitude_moved r c).references.preselected) (pitched i (altitude_moved r c)) (altitude_moved r c)
+      ≡ after_turn Knob.Altitude r i c
 
 -- whatever it reads besides, a rule of one side keeps its channel sound
 pub record ChannelLaws : Type 0 where
