@@ -12,7 +12,7 @@ use refusals::Refusal;
 use sides::Pair;
 
 // The speeds that a start accepts, in knots.
-const SPEEDS: Range = Range { low: 60, high: 400 };
+pub const STARTING_SPEED: Range = Range { low: 60, high: 400 };
 
 // The starting speed of the default bench.
 const DEFAULT_SPEED: i32 = 120;
@@ -110,7 +110,7 @@ pub struct Started {
 pub fn start(speed: i32) -> Started
     ensures { result ≡ started speed }
 {
-    if is_within(SPEEDS, speed) {
+    if is_within(STARTING_SPEED, speed) {
         Started {
             outcome: Ok(()),
             bench: bench_at(speed),
