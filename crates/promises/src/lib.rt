@@ -14,7 +14,7 @@ ghost use Rattle.codes.specs.Laws.{CodeLaws};
 ghost use Rattle.codes.specs.Poster.{PosterLaws};
 ghost use Rattle.feed.specs.Wholes.{ReadingLaws, ReadingExamples, PutLaws};
 ghost use Rattle.channels.specs.declared.Channel.{Channel};
-ghost use Rattle.channels.specs.Laws.{ReferenceLaws, KnobLaws, EntryLaws, ChannelLaws};
+ghost use Rattle.channels.specs.Laws.{ReferenceLaws, KnobLaws, EntryLaws, EntryExamples, TurnLaws, ChannelLaws};
 ghost use Rattle.bench.specs.Laws.{CountLaws, ActingLaws};
 ghost use Rattle.bench.specs.Starts.{StartLaws};
 ghost use Rattle.frames.specs.Laws.{FrameLaws, FrameExamples};
@@ -72,20 +72,23 @@ pub fn promises_hold()
     // which parts an accepted call can change
     ensures stays_laws { StaysLaws }
 
-    // which sides act, and that a rule is made on those; whatever it reads, a side's rule keeps its channel sound
+    // which sides act, and that a rule is made on those; whatever it reads, a side's rule keeps its channel sound; the wheel
+    // and the altitude knob go by the vertical law that is shown
     ensures acting_laws { ActingLaws }
     ensures channel_laws { ChannelLaws }
+    ensures turn_laws { TurnLaws }
 
     // which starting speeds are accepted, what an accepted and a refused start give, and that the reading is exactly the speed
     ensures start_laws { StartLaws }
 
     // a reading's whole value is its nearest integer, but for heading 360 and roll 180, is what it is accepted by, and is
     // kept beside it on a sound bench; an accepted reading stores both, and nothing else changes either; so entry from what
-    // is kept is entry from the rounded reading
+    // is kept is entry from the rounded reading, of which a roll's is worked out
     ensures reading_laws { ReadingLaws }
     ensures reading_examples { ReadingExamples }
     ensures feed_laws { FeedLaws }
     ensures entry_laws { EntryLaws }
+    ensures entry_examples { EntryExamples }
 
     // set codes and the list of all coherent sets; frames: what is written is read back, from one frame, as a send would
     // copy it

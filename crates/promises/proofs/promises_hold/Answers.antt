@@ -16,10 +16,11 @@ use Rattle.feed.proofs.Put.{put_laws}
 use Rattle.channels.proofs.Read.{reference_laws}
 use Rattle.channels.proofs.Named.{knob_laws}
 use Rattle.channels.proofs.Sound.{channel_laws}
+use Rattle.channels.proofs.ByLaw.{turn_laws}
 use Rattle.bench.proofs.Laws.{count_laws, acting_laws}
 use Rattle.bench.proofs.StartLaws.{start_laws}
 use Rattle.soundness.proofs.Feed.{feed_laws}
-use Rattle.channels.proofs.Rounded.{entry_laws}
+use Rattle.channels.proofs.Rounded.{entry_laws, entry_examples}
 use Rattle.codes.proofs.Laws.{code_laws}
 use Rattle.codes.proofs.Poster.{poster_laws}
 use Rattle.frames.proofs.Laws.{frame_laws, frame_examples}
@@ -96,6 +97,9 @@ returns-clause-acting_laws c = acting_laws
 pub returns-clause-channel_laws : goal.returns-clause-channel_laws
 returns-clause-channel_laws c = channel_laws
 
+pub returns-clause-turn_laws : goal.returns-clause-turn_laws
+returns-clause-turn_laws c = turn_laws
+
 pub returns-clause-start_laws : goal.returns-clause-start_laws
 returns-clause-start_laws c = start_laws
 
@@ -110,6 +114,9 @@ returns-clause-feed_laws c = feed_laws
 
 pub returns-clause-entry_laws : goal.returns-clause-entry_laws
 returns-clause-entry_laws c = entry_laws
+
+pub returns-clause-entry_examples : goal.returns-clause-entry_examples
+returns-clause-entry_examples c = entry_examples
 
 pub returns-clause-code_laws : goal.returns-clause-code_laws
 returns-clause-code_laws c = code_laws
