@@ -8,6 +8,7 @@ use native.Mathlib.Omega.{arith}
 use borrow.Author.Tests.{eqb-false, not-true, not-false}
 use lib.ListN.{length, get_or, drop, take-append-drop, length-take}
 use lib.Seq.{get_or-take}
+use Rattle.std.proofs.lemmas.List.FromFn.{length-map-range_with_len, get_or-map-range_with_len}
 use Rattle.words.specs.Words.{run, is_space, leading, place_of, up_to, past_spaces, first_word, past_word, rest, word_of}
 use Rattle.words.specs.Laws.{WordLaws, Example}
 use Rattle.words.proofs.Names.{lookup_first}
@@ -60,9 +61,11 @@ word_laws = record {
   word_start = λ text h. behind_run is_space text h;
   word_end = λ text h. not-false _ (behind_run (λ b. not (is_space b)) (past_spaces text) h);
   whole = λ text. rw take-append-drop (take-append-drop (leading true text) text);
+  words_length = λ text n. length-map-range_with_len (word_of text) 0 n;
+  words_at = λ text n i h. get_or-map-range_with_len (word_of text) 0 n i i [] h (omega arith);
   lookup_first = lookup_first;
 }
 
 pub example : Example
 unfolding word_of first_word past_word up_to past_spaces
-example = record { first = refl; second = refl; none = refl; found = refl; missing = refl; key = refl }
+example = record { first = refl; second = refl; none = refl; found = refl; missing = refl; found_in = refl; missing_in = refl; empty_in = refl; key = refl }

@@ -1,10 +1,10 @@
--- For `lookup`: what `position` finds among references to texts, and what that says of the names. Assumes nothing.
-use Rattle.std.proofs.Common.{◌≡◌, ◌∙◌, ℕ, zero, suc, ◌+◌, ◌<◌, Bool, true, false, not, cond, ltb, ltb-true, ltb-false, lt-ltb, Option, Some, None, position, List, [], ◌∷◌, length, get_or, Bor, refl, sym, ap, arith}
+-- For `lookup` and `lookup_in`: what `position` finds among texts, and what that says of the names. Assumes nothing.
+use Rattle.std.proofs.Common.{◌≡◌, ◌∙◌, ℕ, zero, suc, ◌+◌, ◌<◌, Bool, true, false, not, cond, ltb, ltb-true, ltb-false, lt-ltb, Option, Some, None, position, List, [], ◌∷◌, length, get_or, map, refl, sym, ap, arith}
 use Rattle.std.specs.Option.{option_map}
 use Rattle.std.specs.List.{prefix_len}
 use mathlib.Core.Bool.{false≢true}
 use lib.Pointwise.{bytes_decides}
-use Rattle.words.specs.Words.{same_bytes, texts, lookup_of}
+use Rattle.words.specs.Words.{same_bytes, lookup_of}
 use Rattle.words.specs.Laws.{IsFirst}
 
 -- one more in front moves what is found by one
@@ -17,19 +17,20 @@ behind n m = go (ltb n m) (ltb (1 + n) (suc m)) refl refl
     go true false e f = let l = ltb-true n m e in let g = ltb-false (1 + n) (suc m) f in absurd (omega arith)
     go false true e f = let l = ltb-false n m e in let g = ltb-true (1 + n) (suc m) f in absurd (omega arith)
 
-pub position_is : (w : List ℕ) (names : List (Bor (List ℕ))) → position (λ (b : Bor (List ℕ)). same_bytes w b.now) names ≡ lookup_of w (texts names)
-position_is w [] = refl
-position_is w (b ∷ bs) = go (same_bytes w b.now) (position_is w bs)
+-- v gives a name for what is searched: the text of a reference, or the word of a number
+pub position_is : {A : Type 0} (v : A → List ℕ) (w : List ℕ) (xs : List A) → position (λ (x : A). same_bytes w (v x)) xs ≡ lookup_of w (map v xs)
+position_is v w [] = refl
+position_is {A} v w (x ∷ xs) = go (same_bytes w (v x)) (position_is v w xs)
   where
     n : ℕ
-    n = prefix_len (λ (b : Bor (List ℕ)). not (same_bytes w b.now)) bs
+    n = prefix_len (λ (x : A). not (same_bytes w (v x))) xs
 
     at : Bool → ℕ
     at t = cond (not t) (1 + n) 0
 
-    go : (t : Bool) → cond (ltb n (length bs)) (Some n) None ≡ lookup_of w (texts bs) → cond (ltb (at t) (suc (length bs))) (Some (at t)) None ≡ cond t (Some 0) (option_map suc (lookup_of w (texts bs)))
-    go true h = rw (lt-ltb 0 (suc (length bs)) (omega arith)) refl
-    go false h = behind n (length bs) ∙ ap (option_map suc) h
+    go : (t : Bool) → cond (ltb n (length xs)) (Some n) None ≡ lookup_of w (map v xs) → cond (ltb (at t) (suc (length xs))) (Some (at t)) None ≡ cond t (Some 0) (option_map suc (lookup_of w (map v xs)))
+    go true h = rw (lt-ltb 0 (suc (length xs)) (omega arith)) refl
+    go false h = behind n (length xs) ∙ ap (option_map suc) h
 
 pub lookup_first : (w : List ℕ) (names : List (List ℕ)) → IsFirst w names (lookup_of w names)
 lookup_first w [] = record { within = λ i e. absurd (none e); is = λ i e. absurd (none e); before = λ i j e. absurd (none e); missing = λ j e h. absurd (omega arith) }

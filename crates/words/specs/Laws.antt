@@ -1,6 +1,6 @@
 -- What the definitions of specs/Words.antt mean, and an example. `word_laws` and `example` of proofs/Laws.antt prove it.
 use Rattle.std.specs.Prelude.{◌≡◌, true, false, List, [], ◌∷◌, ◌++◌, ℕ, ◌<◌, Option, Some, None, length, get_or, take}
-use Rattle.words.specs.Words.{is_space, leading, up_to, past_spaces, first_word, past_word, word_of, lookup_of}
+use Rattle.words.specs.Words.{is_space, leading, up_to, past_spaces, first_word, past_word, word_of, words_of, lookup_of}
 
 -- what is found is the number of the first of the names that is w, and nothing where none is
 pub record IsFirst (w : List ℕ) (names : List (List ℕ)) (found : Option ℕ) : Type 0 where
@@ -18,6 +18,9 @@ pub record WordLaws : Type 0 where
   pub word_end : (text : List ℕ) → 0 < length (past_word text) → is_space (get_or (past_word text) 0 0) ≡ true
   -- a text is its leading spaces, its first word and what follows that
   pub whole : (text : List ℕ) → take (leading true text) text ++ (first_word text ++ past_word text) ≡ text
+  -- the first n words of a text are n texts, each the word of its number
+  pub words_length : (text : List ℕ) (n : ℕ) → length (words_of text n) ≡ n
+  pub words_at : (text : List ℕ) (n i : ℕ) → i < n → get_or (words_of text n) i [] ≡ word_of text i
   pub lookup_first : (w : List ℕ) (names : List (List ℕ)) → IsFirst w names (lookup_of w names)
 
 -- "event"
@@ -38,4 +41,8 @@ pub record Example : Type 0 where
   pub none : word_of two_words 2 ≡ []
   pub found : lookup_of sixteen (event ∷ sixteen ∷ []) ≡ Some 1
   pub missing : lookup_of (54 ∷ []) (event ∷ sixteen ∷ []) ≡ None
+  pub found_in : lookup_of sixteen (words_of two_words 2) ≡ Some 1
+  pub missing_in : lookup_of (54 ∷ []) (words_of two_words 2) ≡ None
+  -- a word that a text does not have is empty
+  pub empty_in : lookup_of [] (words_of two_words 3) ≡ Some 2
   pub key : up_to 32 (event ++ 32 ∷ sixteen) ≡ event

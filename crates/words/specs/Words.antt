@@ -1,5 +1,6 @@
 -- The words of a text, which is a list of bytes: the runs of bytes that are no spaces. The console's page, 'Script'.
 use Rattle.std.specs.Prelude.{ℕ, zero, suc, Bool, true, false, not, cond, ◌||◌, List, [], ◌∷◌, eqb, take, drop, map, Option, Some, None}
+use Rattle.std.specs.List.{range_with_len}
 use Rattle.std.specs.Option.{option_map}
 use denote.Bor.{Bor}
 use Rattle.std.specs.Cmp.Lexicographic.{pointwise}
@@ -57,6 +58,10 @@ same_bytes s t = pointwise eqb s t
 -- the texts that a slice of them refers to
 abbrev pub texts : List (Bor (List ℕ)) → List (List ℕ)
 texts names = map (λ b. b.now) names
+
+-- a text's words number 0 to n - 1; one that it does not have is empty
+abbrev pub words_of : List ℕ → ℕ → List (List ℕ)
+words_of text n = map (word_of text) (range_with_len 0 n)
 
 -- the number of the first of the names that is w, if one is
 abbrev pub lookup_of : List ℕ → List (List ℕ) → Option ℕ

@@ -2,7 +2,7 @@
 #![tactic(auto)]
 
 ghost use Rattle.std.specs.Prelude.{◌≡◌};
-ghost use Rattle.words.specs.Words.{is_space, place_of, up_to, word_of, texts, lookup_of};
+ghost use Rattle.words.specs.Words.{is_space, place_of, up_to, word_of, texts, words_of, lookup_of};
 
 // Whether a byte separates words: a tab and a carriage return do so as a space does.
 fn is_space(byte: u8) -> bool
@@ -41,4 +41,11 @@ pub fn lookup(w: &[u8], names: &[&[u8]]) -> Option<usize>
     ensures { result ≡ lookup_of w.now (texts names.now) }
 {
     names.iter().position(|name| w == *name)
+}
+
+// The same where the names are the first so many words of a text; those that it does not have are empty.
+pub fn lookup_in(w: &[u8], text: &[u8], total: usize) -> Option<usize>
+    ensures { result ≡ lookup_of w.now (words_of text.now total) }
+{
+    (0..total).position(|i| w == word(text, i))
 }

@@ -10,4 +10,4 @@ pub returns : goal.returns
 returns c =
     let q = λ (b : Bor (List ℕ)). same_bytes c.args.w.now b.now in
     position_from_yields_List q _ _ _ c.position.ensures.ran (YieldsList-from_slice c.args.names.now cc) (λ x b f k. search (rules, tests))
-    ∙ position_is c.args.w.now c.args.names.now
+    ∙ position_is (λ (b : Bor (List ℕ)). b.now) c.args.w.now c.args.names.now
