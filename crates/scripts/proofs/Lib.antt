@@ -1,3 +1,4 @@
 pub mod Events
 pub mod Lines
+pub mod Tables
 pub mod Laws

@@ -1,3 +1,4 @@
 pub mod Commands
 pub mod Lines
+pub mod Tables
 pub mod Laws
