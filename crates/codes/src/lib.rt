@@ -7,7 +7,7 @@ ghost use Rattle.codes.specs.Numbers.{lateral_by, armed_by, vertical_by, modes_b
 ghost use Rattle.codes.specs.Poster.{set_numbers};
 ghost use Rattle.codes.specs.Private.{set_shown};
 
-pub use modes::row::set_code;
+pub use modes::row::{NO_CODE, set_code};
 use modes::{ArmedLateral, Lateral, ModeSet, Modes, Vertical};
 
 // The sets by their codes: lateral law, vertical law and armed sum, a hexadecimal digit each.
