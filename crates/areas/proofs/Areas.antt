@@ -1,18 +1,15 @@
--- What the code does to an area is what a line does to it: bytes inside an area, and an area that is seen as a slice. Assumes nothing.
+-- What the code does to an area is what a line does to it: bytes inside an area, and an area that is the first bytes of its store. Assumes nothing.
 use mathlib.Core.Path.{◌≡◌, refl, sym, ap, ◌∙◌}
 use mathlib.Core.Bool.{Bool, true, false, cond}
-use mathlib.Core.List.{List}
-use Prim.Native.Nat.{ℕ, ◌+◌, ◌-◌, ◌≤◌, ◌<◌}
+use mathlib.Core.List.{List, ◌++◌}
+use Prim.Native.Nat.{ℕ, ◌+◌, ◌-◌, ◌≤◌, ◌<◌, min}
 use native.Mathlib.Omega.{arith}
 use native.Mathlib.Decide.{dec_le}
 use borrow.Author.Tests.{leb-true, leb-false, le-leb, lt-leb}
 use borrow.Rule.Slice.PartMut.{put_mid}
 use lib.Dec.{leb}
-use lib.ListN.{length, take, replicate, length-drop, length-replicate}
-use lib.Seq.{take_all}
-use Rattle.std.proofs.lemmas.List.{take-replicate}
-use Rattle.std.specs.List.{refill}
-use Rattle.arrayvec.proofs.ArrayVecLemmas.{items-with_items}
+use lib.ListN.{length, take, drop, length-append, length-drop, take-append-drop}
+use lib.Seq.{take_all, length-take-le, take-append_seam}
 use Rattle.numerals.specs.Pairs.{laid_over}
 use Rattle.frames.specs.Frames.{laid}
 use Rattle.frames.proofs.Areas.{from, from_is, put_frame}
@@ -53,16 +50,36 @@ module _ (start : ℕ) (bytes area : List ℕ) where
       go false e = refl
       go true e = length_laid bytes start area (within e)
 
--- ---- an area that has room for so many bytes
+-- ---- an area that is the first bytes of its store
 
-module _ (room : ℕ) where
-  -- what its slice holds afterwards, which is as long, is the area
-  pub seen : (area after : List ℕ) → length area ≤ room → length after ≡ length area → refill (length area) area after ≡ take room after
-  seen area after h e = items-with_items (record { items = area }) after e ∙ sym (take_all room after (omega arith))
+module _ (store : List ℕ) (n : ℕ) (h : n ≤ length store) where
+  pub first_length : length (take n store) ≡ n
+  first_length = length-take-le n store h
 
-  -- the first zeros of as many as it has room for
-  pub zeros_kept : (n : ℕ) → take n (replicate {A = ℕ} room 0) ≡ take room (replicate {A = ℕ} n 0)
-  zeros_kept n = elim (dec_le n room) [
-    | yes l ↦ take-replicate {X = ℕ} n room 0 l ∙ sym (take_all room (replicate {A = ℕ} n 0) (omega (arith, length-replicate {A = ℕ} n 0)))
-    | no l ↦ take_all n (replicate {A = ℕ} room 0) (omega (arith, length-replicate {A = ℕ} room 0)) ∙ sym (take-replicate {X = ℕ} room n 0 (omega arith))
-  ]
+  -- the changed area in front of the rest of the store
+  pub store_is : (area : List ℕ) → length area ≡ length (take n store) → area ++ drop n store ≡ laid_over area store
+  store_is area e =
+      let size : length area ≡ n = e ∙ first_length in
+      rw (take_all (length store) area (omega arith), size)
+
+  -- an area that stays as it is
+  pub store_same : store ≡ laid_over (take n store) store
+  store_same = sym (take-append-drop n store) ∙ store_is (take n store) refl
+
+-- the first n bytes of a store, or all where it has fewer
+pub first_is : (store : List ℕ) (n k : ℕ) → k ≡ min n (length store) → take k store ≡ take n store
+first_is store n k e = elim (dec_le n (length store)) [
+  | yes l ↦ let same : k ≡ n = omega arith in ap (λ (j : ℕ). take j store) same
+  | no l ↦ take_all k store (omega arith) ∙ sym (take_all n store (omega arith))
+]
+
+-- an area in front of a store that is long enough
+module _ (area store : List ℕ) (h : length area ≤ length store) where
+  in_front_lem : laid_over area store ≡ area ++ drop (length area) store
+  in_front_lem = ap (λ (l : List ℕ). l ++ drop (length area) store) (take_all (length store) area h)
+
+  pub front_is : take (length area) (laid_over area store) ≡ area
+  front_is = ap (take (length area)) in_front_lem ∙ take-append_seam area (drop (length area) store)
+
+  pub front_length : length (laid_over area store) ≡ length store
+  front_length = ap (λ (l : List ℕ). length l) in_front_lem ∙ length-append area (drop (length area) store) ∙ omega (arith, length-drop (length area) store)

@@ -47,6 +47,6 @@ written_by (Some (Clears n)) b area = Ok tt
 written_by (Some (Pokes start)) b area = Ok tt
 written_by (Some (Writes side start)) b area = write_verdict b side start area
 
--- a line that asks for this, with this act
+-- a line that asks for this, with this act; it says how long the area is then too
 unfoldable pub area_answer : Option AreaAct → Asked → List ℕ → Bench → List ℕ → AreaAnswer
-area_answer act asked line b area = record { asked = heard_by act asked line area; written = written_by act b area }
+area_answer act asked line b area = record { asked = heard_by act asked line area; written = written_by act b area; length = length (area_by act line b area) }

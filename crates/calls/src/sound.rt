@@ -12,7 +12,7 @@ use feed::Reading;
 use refusals::Refusal;
 use std::marker::Model;
 
-#[derive(Clone, Drop)]
+#[derive(Clone, Copy)]
 pub struct SoundBench {
     bench: Bench,
 }
@@ -21,6 +21,8 @@ impl Model for SoundBench {
     ghost Value = { Bench };
 
     ghost view = { λ s. s.bench };
+
+    ghost inverse = { λ b. record { bench = b } };
 
     ghost invariant = { λ s. sound s.bench ≡ true };
 }
@@ -106,7 +108,7 @@ impl SoundBench {
 }
 
 // A start that names its speed, as `bench::starts::start`: either way it gives a sound bench.
-#[derive(Clone, Drop)]
+#[derive(Clone, Copy)]
 pub struct SoundStart {
     pub outcome: Result<(), Refusal>,
     pub bench: SoundBench,
@@ -137,18 +139,27 @@ pub fn power_on() -> SoundBench
 }
 
 // Any bench, judged once, when it was put here: its calls judge it no more.
-#[derive(Clone, Drop)]
+#[derive(Clone, Copy)]
 pub struct JudgedBench {
     bench: Bench,
     is_sound: bool,
 }
 
 impl Model for JudgedBench {
+    ghost use Rattle.std.specs.Prelude.{◌≡◌};
+    ghost use Rattle.std.proofs.Common.{sym};
+    ghost use Rattle.bench.specs.declared.Bench.{Bench};
+    ghost use Rattle.bench.specs.Sound.{sound};
+
     ghost Value = { Bench };
 
     ghost view = { λ j. j.bench };
 
+    ghost inverse = { λ b. record { bench = b; is_sound = sound b } };
+
     ghost invariant = { λ j. j.is_sound ≡ sound j.bench };
+
+    ghost inverse_ok = { λ j h i. record { bench = j.bench; is_sound = sym h i } };
 }
 
 impl From<SoundBench> for JudgedBench {

@@ -1,5 +1,5 @@
 -- A line turns a knob by as many clicks as it says. Assumes nothing.
-use Rattle.std.proofs.Common.{◌≡◌, ℕ, zero, suc, ◌+◌, ◌-◌, ◌%◌, ◌<◌, ◌≤◌, Bool, true, false, cond, ℤ, pos, negsuc, Ok, refl, ap, arith}
+use Rattle.std.proofs.Common.{◌≡◌, ℕ, zero, suc, ◌+◌, ◌-◌, ◌%◌, ◌<◌, ◌≤◌, Bool, true, false, cond, ℤ, pos, negsuc, ap, arith}
 use Rattle.rounding.specs.Whole.{signed_of}
 use Rattle.numerals.specs.Numbers.{clicks_back}
 use Rattle.rotation.specs.Rotation.{rotation_of}

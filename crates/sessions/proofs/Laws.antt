@@ -5,11 +5,11 @@ use native.Mathlib.Nat.{mod-add-mod}
 use Rattle.scripts.specs.declared.Mistake.{Mistake}
 use Rattle.bench.specs.declared.Bench.{Bench}
 use Rattle.bench.specs.Holds.{power_on}
-use Rattle.sessions.specs.declared.Session.{Session}
 use Rattle.acts.specs.Acts.{bench_after, effect_of}
 use Rattle.areas.specs.Areas.{area_answer}
 use Rattle.sessions.specs.Effects.{watch_after, area_after}
 use Rattle.sessions.specs.Script.{lines_of, ending, asked, carried, carried_area, watched}
+use Rattle.sessions.specs.declared.Session.{Session}
 use Rattle.sessions.specs.Sessions.{beginning, carried_out, after_line, with_byte, byte_taken, after_byte, after_end, fed, fed_all}
 use Rattle.sessions.specs.Laws.{SessionLaws}
 use Rattle.sessions.proofs.Lines.{split, after, after_nil, after_byte as after_line_byte}
@@ -23,10 +23,10 @@ use Rattle.sessions.proofs.Areas.{after_fits}
 record At (b : Bench) (w : Bool) (bytes : List ℕ) (k : ℕ) (line : List ℕ) (s : Session) : Type 0 where
   bench : s.bench ≡ b
   watch : s.watch ≡ w
-  area : s.area.items ≡ bytes
+  area : s.area ≡ bytes
   stored : length bytes ≤ 2048
   counted : s.lines ≡ k % 2 ^ 64
-  kept : s.line.items ≡ take 256 line
+  kept : s.line ≡ take 256 line
 
 -- of a line that is too long no byte is looked at
 too_long : (s : Session) (t u : List ℕ) → carried_out s t (Err Mistake.TooLong) ≡ carried_out s u (Err Mistake.TooLong)
@@ -39,11 +39,11 @@ too_long_after s t u = refl
 
 module _ {b : Bench} {w : Bool} {area : List ℕ} {k : ℕ} {line : List ℕ} {s : Session} (at : At b w area k line s) where
   -- the line is carried out that was read
-  heard : carried_out s s.line.items (asked s.line.items) ≡ carried_out s line (asked line)
-  heard = line_does line s.line.items at.kept (λ t c. carried_out s t c) (too_long s)
+  heard : carried_out s s.line (asked s.line) ≡ carried_out s line (asked line)
+  heard = line_does line s.line at.kept (λ t c. carried_out s t c) (too_long s)
 
-  heard_after : after_line s s.line.items (asked s.line.items) ≡ after_line s line (asked line)
-  heard_after = line_does line s.line.items at.kept (λ t c. after_line s t c) (too_long_after s)
+  heard_after : after_line s s.line (asked s.line) ≡ after_line s line (asked line)
+  heard_after = line_does line s.line at.kept (λ t c. after_line s t c) (too_long_after s)
 
   -- the line has ended
   ended : At (bench_after (asked line) b) (watch_after (effect_of (asked line)) w) (area_after line (asked line) b area) (k + 1) [] (after_line s line (asked line))
@@ -59,12 +59,12 @@ module _ {b : Bench} {w : Bool} {area : List ℕ} {k : ℕ} {line : List ℕ} {s
         kept = refl;
       }
 
-  at_end : At (bench_after (asked line) b) (watch_after (effect_of (asked line)) w) (area_after line (asked line) b area) (k + 1) [] (after_line s s.line.items (asked s.line.items))
+  at_end : At (bench_after (asked line) b) (watch_after (effect_of (asked line)) w) (area_after line (asked line) b area) (k + 1) [] (after_line s s.line (asked s.line))
   at_end = rw heard_after ended
 
   -- the line goes on
   at_byte : (byte : ℕ) → At b w area k (line ++ (byte ∷ [])) (with_byte s byte)
-  at_byte byte = record { bench = at.bench; watch = at.watch; area = at.area; stored = at.stored; counted = at.counted; kept = one_more line s.line.items at.kept byte }
+  at_byte byte = record { bench = at.bench; watch = at.watch; area = at.area; stored = at.stored; counted = at.counted; kept = one_more line s.line at.kept byte }
 
 -- ---- a script
 
@@ -77,7 +77,7 @@ Goes script = (b : Bench) (w : Bool) (area : List ℕ) (k : ℕ) (line : List �
 -- a byte that is no line end is kept
 fed_byte : (byte : ℕ) (more : List ℕ) (s : Session) → eqb byte 10 ≡ false → fed s (byte ∷ more) ≡ fed (with_byte s byte) more
 unfolding fed after_byte
-fed_byte byte more s e = ap (λ (t : Bool). fed (cond t (after_line s s.line.items (asked s.line.items)) (with_byte s byte)) more) e
+fed_byte byte more s e = ap (λ (t : Bool). fed (cond t (after_line s s.line (asked s.line)) (with_byte s byte)) more) e
 
 one_byte : (byte : ℕ) (more : List ℕ) → Goes more → (t : Bool) → eqb byte 10 ≡ t → Goes (byte ∷ more)
 unfolding fed lines_of after_byte
@@ -116,13 +116,13 @@ area_append (line ∷ lines) more b area = area_append lines more (bench_after (
 -- what the script's end leaves
 record Ends (b : Bench) (bytes : List ℕ) (line : List ℕ) (s : Session) : Type 0 where
   bench : (after_end s).bench ≡ carried (ending line) b
-  area : (after_end s).area.items ≡ carried_area (ending line) b bytes
+  area : (after_end s).area ≡ carried_area (ending line) b bytes
 
 at_ending : (line : List ℕ) {b : Bench} {w : Bool} {area : List ℕ} {k : ℕ} {s : Session} → At b w area k line s → Ends b area line s
 unfolding after_end
 at_ending [] {s = s} at = rw at.kept (record { bench = at.bench; area = at.area })
 at_ending (byte ∷ more) {s = s} at =
-    let some = ne_eqb (length s.line.items) 0 (λ e. omega (arith, ap (λ (l : List ℕ). length l) at.kept)) in
+    let some = ne_eqb (length s.line) 0 (λ e. omega (arith, ap (λ (l : List ℕ). length l) at.kept)) in
     record { bench = simp some (at_end at).bench; area = simp some (at_end at).area }
 
 pub session_laws : SessionLaws

@@ -1,3 +1,4 @@
+pub mod Rooms
 pub mod Lines
 pub mod Clicks
 pub mod Kept

@@ -1,5 +1,5 @@
 -- The laws of sessions: a session that was fed a script has the bench and the bus area that the script means. `session_laws` of `proofs/Laws.antt` proves them.
-use Rattle.std.specs.Prelude.{◌≡◌, ℕ, ◌+◌, ◌%◌, ◌^◌, ◌<◌, ◌≤◌, min, Bool, cond, List, [], ◌∷◌, ◌++◌, length, take, ◌≢◌, Ok, slice_index, slice_index_or}
+use Rattle.std.specs.Prelude.{◌≡◌, ℕ, ◌+◌, ◌%◌, ◌^◌, ◌<◌, ◌≤◌, min, Bool, cond, List, [], ◌∷◌, ◌++◌, length, take, ◌≢◌, slice_index, slice_index_or}
 use mathlib.Core.List.{flatten}
 use Rattle.rounding.specs.Whole.{signed_of}
 use Rattle.numerals.specs.Numbers.{clicks_back}
@@ -12,18 +12,18 @@ use Rattle.sessions.specs.Sessions.{beginning, carried_out, after_line, byte_tak
 pub record HasRead (script : List ℕ) (s : Session) : Type 0 where
   -- bench, area and watch are those that the ended lines leave, and they are counted
   pub bench : s.bench ≡ bench_of (lines_of script).ended
-  pub area : s.area.items ≡ area_of (lines_of script).ended
+  pub area : s.area ≡ area_of (lines_of script).ended
   pub watch : s.watch ≡ watch_of (lines_of script).ended
   pub counted : s.lines ≡ length (lines_of script).ended % 2 ^ 64
   -- what follows the last line end is kept, up to 256 bytes
-  pub filled : length s.line.items ≡ min 256 (length (lines_of script).last)
-  pub kept : s.line.items ≡ take 256 (lines_of script).last
+  pub filled : length s.line ≡ min 256 (length (lines_of script).last)
+  pub kept : s.line ≡ take 256 (lines_of script).last
   -- a line end would carry out what that line asks for,
   pub heard : byte_taken s 10 ≡ carried_out s (lines_of script).last (asked (lines_of script).last)
   pub heard_after : after_byte s 10 ≡ after_line s (lines_of script).last (asked (lines_of script).last)
   -- and the script's end leaves the bench and the area of all its lines
   pub ended : (after_end s).bench ≡ bench_of (all_lines script)
-  pub ended_area : (after_end s).area.items ≡ area_of (all_lines script)
+  pub ended_area : (after_end s).area ≡ area_of (all_lines script)
 
 -- lines as a script writes them
 abbrev pub written : List (List ℕ) → List ℕ → List ℕ

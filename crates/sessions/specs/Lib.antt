@@ -1,3 +1,4 @@
+pub mod Rooms
 pub mod Effects
 pub mod Script
 pub mod Sessions

@@ -2,31 +2,34 @@
 // out on what the one before it left. Nothing is read or written here.
 #![tactic(auto)]
 
+mod bytes;
 mod effects;
 
-ghost use Rattle.std.specs.Prelude.{◌≡◌};
+ghost use Rattle.std.specs.Prelude.{◌≡◌, take};
+ghost use Rattle.areas.specs.Areas.{area_by, area_answer};
 ghost use Rattle.sessions.specs.Script.{asked};
-ghost use Rattle.sessions.specs.Sessions.{beginning, carried_out, after_line, goes_on, with_byte, byte_taken, after_byte, script_ended, after_end};
+ghost use Rattle.sessions.specs.Sessions.{holding, beginning, carried_out, after_line, goes_on, byte_taken, after_byte, script_ended, after_end};
 
-use arrayvec::ArrayVec;
+use areas::AreaAnswer;
 use bench::Bench;
+use bytes::Bytes;
 use calls::reply::Reply;
 use calls::sound::JudgedBench;
 use refusals::Refusal;
-use scripts::{Command, Mistake};
+use scripts::{AreaAct, Command, Mistake};
 
 // What is kept from one byte of a script to the next.
-#[derive(Clone, Drop)]
+#[derive(Clone, Copy)]
 pub struct Session {
     bench: JudgedBench,
     // line ends so far, modulo 2^64
     pub lines: u64,
     // the bytes of the line that is being read; a line that fills its room is too long
-    line: ArrayVec<u8, 256>,
+    line: Bytes<256>,
     // while it is on, a drawing follows each answer of a command that can change the bench
     pub watch: bool,
     // the bus area
-    area: ArrayVec<u8, 2048>,
+    area: Bytes<2048>,
 }
 
 // What a byte asked for: the command of a line that ended, what it answers, and whether a drawing follows. Inside
@@ -40,13 +43,41 @@ pub struct Taken {
 
 // What a line asks for. One that fills its room is longer than a line may be.
 #[tactic(auto, unfolding(crate::specs::Script::asked))]
-fn asked_in(line: &ArrayVec<u8, 256>) -> Result<Command, Mistake>
-    ensures { result ≡ asked line.now.items }
+fn asked_in(line: &[u8]) -> Result<Command, Mistake>
+    ensures { result ≡ asked line.now }
 {
-    if line.is_full() {
+    if line.len() >= 256 {
         return Err(Mistake::TooLong);
     }
-    scripts::command_of(line.as_slice())
+    scripts::command_of(line)
+}
+
+// Carries out a line's act on the area. Of an area that is longer than its room the room's bytes are kept.
+#[tactic(auto, unfolding(areas::specs::Areas::area_answer))]
+fn answer_in<const N: usize>(
+    act: Option<AreaAct>,
+    asked: Result<Command, Mistake>,
+    line: &[u8],
+    b: &Bench,
+    area: &mut Bytes<N>,
+) -> AreaAnswer
+    ensures answer { result ≡ area_answer act asked line.now b.now area.old }
+    ensures new_area { area.new ≡ take N (area_by act line.now b.now area.old) }
+{
+    match act {
+        None => AreaAnswer {
+            asked,
+            written: Ok(()),
+            length: area.count,
+        },
+        Some(_) => {
+            let mut room = area.room;
+            let done = areas::answer_in(act, asked, line, b, &mut room, area.count);
+            let count = done.length.min(N);
+            *area = Bytes::of(&room[..count]);
+            done
+        }
+    }
 }
 
 // What a byte asks for inside a line.
@@ -68,9 +99,22 @@ impl Session {
         Session {
             bench: JudgedBench::from(calls::sound::power_on()),
             lines: 0,
-            line: ArrayVec::new(),
+            line: Bytes::new(),
             watch: false,
-            area: ArrayVec::new(),
+            area: Bytes::new(),
+        }
+    }
+
+    // A session inside a script. Of a line 256 bytes are kept, and of an area 2,048.
+    pub fn of(bench: Bench, lines: u64, line: &[u8], watch: bool, area: &[u8]) -> Session
+        ensures { result ≡ holding bench lines line.now watch area.now }
+    {
+        Session {
+            bench: JudgedBench::of(bench),
+            lines,
+            line: Bytes::of(line),
+            watch,
+            area: Bytes::of(area),
         }
     }
 
@@ -80,9 +124,16 @@ impl Session {
         self.bench.bench()
     }
 
+    // The bytes that are kept of the line that is being read.
+    pub fn line(&self) -> &[u8]
+        ensures { result.now ≡ self.now.line }
+    {
+        self.line.as_slice()
+    }
+
     // The bytes of the bus area.
     pub fn area(&self) -> &[u8]
-        ensures { result.now ≡ self.now.area.items }
+        ensures { result.now ≡ self.now.area }
     {
         self.area.as_slice()
     }
@@ -90,15 +141,21 @@ impl Session {
     // Carries out the line that was read: it is counted, and the next one begins.
     #[tactic(auto, unfolding(crate::specs::Sessions::carried_out, crate::specs::Sessions::after_line))]
     fn end_line(&mut self) -> Taken
-        ensures answer { result ≡ carried_out self.old self.old.line.items (asked self.old.line.items) }
-        ensures new_session { self.new ≡ after_line self.old self.old.line.items (asked self.old.line.items) }
+        ensures answer { result ≡ carried_out self.old self.old.line (asked self.old.line) }
+        ensures new_session { self.new ≡ after_line self.old self.old.line (asked self.old.line) }
     {
-        let asked = asked_in(&self.line);
+        let line = &self.line;
+        let asked = asked_in(line.as_slice());
         let effect = acts::effect_of(asked);
         let act = effects::area_act(effect);
-        let line = self.line.as_slice();
         // the area is given the bench as it came
-        let done = areas::answer_in(act, asked, line, self.bench.bench(), &mut self.area);
+        let done = answer_in(
+            act,
+            asked,
+            line.as_slice(),
+            self.bench.bench(),
+            &mut self.area,
+        );
         let answer = acts::answer_to(&mut self.bench, asked);
         let drawn = effects::is_drawn(effect, self.watch);
         self.lines = self.lines.wrapping_add(1);
@@ -111,15 +168,6 @@ impl Session {
         }
     }
 
-    // Keeps one byte more of the line. One that has no room is dropped: the line is too long without it.
-    fn keep(&mut self, byte: u8)
-        ensures { self.new ≡ with_byte self.old byte }
-    {
-        if !self.line.is_full() {
-            self.line.push(byte);
-        }
-    }
-
     // One byte more of the script.
     #[tactic(auto, unfolding(crate::specs::Sessions::byte_taken, crate::specs::Sessions::after_byte))]
     pub fn take_byte(&mut self, byte: u8) -> Taken
@@ -129,7 +177,8 @@ impl Session {
         if byte == b'\n' {
             return self.end_line();
         }
-        self.keep(byte);
+        // one that has no room is dropped: the line is too long without it
+        self.line.push(byte);
         nothing()
     }
 
@@ -139,7 +188,7 @@ impl Session {
         ensures answer { result ≡ script_ended self.old }
         ensures new_session { self.new ≡ after_end self.old }
     {
-        if self.line.is_empty() {
+        if self.line().is_empty() {
             return nothing();
         }
         self.end_line()
