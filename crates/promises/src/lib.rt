@@ -33,6 +33,7 @@ ghost use Rattle.words.specs.Laws.{WordLaws, Example};
 ghost use Rattle.numerals.specs.Laws.{ValueLaws};
 ghost use Rattle.numerals.specs.Examples.{Numbers, Pairs, Integers, Values};
 ghost use Rattle.scripts.specs.Lines.{Lines};
+ghost use Rattle.scripts.specs.Tables.{TableLaws};
 ghost use Rattle.scripts.specs.Laws.{LineLaws};
 ghost use Rattle.sessions.specs.Laws.{SessionLaws};
 ghost use Rattle.promises.specs.Sends.{SameAsSent};
@@ -114,6 +115,7 @@ pub fn promises_hold()
     ensures value_examples { Values }
     ensures value_laws { ValueLaws }
     ensures script_lines { Lines }
+    ensures table_laws { TableLaws }
     ensures line_laws { LineLaws }
     ensures session_laws { SessionLaws }
 {}

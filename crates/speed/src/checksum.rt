@@ -119,7 +119,7 @@ fn kind_code(kind: Kind) -> u64 {
 
 // A signed number: twice its magnitude, and 1 more below zero.
 fn signed_code(x: i32) -> u64 {
-    (u64::from(x.unsigned_abs()) << 1) ^ u64::from(x < 0)
+    (number_forms::magnitude(x) << 1) ^ u64::from(x < 0)
 }
 
 // A float by its bit pattern, and what is no number by 1.

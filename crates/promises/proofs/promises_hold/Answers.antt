@@ -33,6 +33,7 @@ use Rattle.words.proofs.Laws.{word_laws, example}
 use Rattle.numerals.proofs.Examples.{numbers, pairs, integers, values}
 use Rattle.numerals.proofs.Laws.{value_laws}
 use Rattle.scripts.proofs.Lines.{lines}
+use Rattle.scripts.proofs.Tables.{table_laws}
 use Rattle.scripts.proofs.Laws.{line_laws}
 use Rattle.sessions.proofs.Laws.{session_laws}
 use Rattle.promises.proofs.promises_hold.Goals as goal
@@ -171,6 +172,9 @@ returns-clause-value_laws c = value_laws
 
 pub returns-clause-script_lines : goal.returns-clause-script_lines
 returns-clause-script_lines c = lines
+
+pub returns-clause-table_laws : goal.returns-clause-table_laws
+returns-clause-table_laws c = table_laws
 
 pub returns-clause-line_laws : goal.returns-clause-line_laws
 returns-clause-line_laws c = line_laws
