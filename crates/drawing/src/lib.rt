@@ -1,5 +1,5 @@
-// How the console writes what it answers: lines of calls and picks, values as numbers, and both panels as a drawing. Nothing is
-// decided here, and no contract speaks of text.
+// How the console writes what it answers: lines of calls and picks, values as numbers, and both panels as a drawing. No contract
+// speaks of text; that a panel marks the references which the engaged modes steer to has one.
 #![tactic(auto)]
 
 pub mod answers;

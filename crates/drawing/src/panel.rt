@@ -1,6 +1,12 @@
 // Draws both panels, side by side, with what their displays show, and two flags that no display shows: overspeed
 // and independent operation.
 // A row has 35 columns between a border and a space on either side, so that both panels fit 80 columns.
+ghost use Rattle.std.specs.Prelude.{◌≡◌};
+ghost use Rattle.modes.specs.declared.ModeSet.{ModeSet};
+ghost use Rattle.modes.specs.Sets.{engaged_in};
+ghost use Rattle.modes.specs.Numbers.{lateral_law, vertical_law};
+ghost use Rattle.drawing.specs.Panel.{steering};
+
 use bench::{Bench, Shared};
 use calls::reply::Display as Shown;
 use channels::references::Reference;
@@ -228,7 +234,10 @@ fn armed_vertical_name(sum: u32) -> &'static str {
 // ---- targets
 
 // Whether an engaged mode steers to a reference. A law goes by its number here, as a display has it.
-fn is_steered_to(name: Reference, shown: Shown) -> bool {
+#[tactic(auto, unfolding(modes::specs::Sets::engaged))]
+fn is_steered_to(name: Reference, shown: Shown) -> bool
+    ensures { (s : ModeSet) → shown.lateral ≡ lateral_law s → shown.vertical ≡ vertical_law s → result ≡ engaged_in (steering name) s }
+{
     match name {
         Reference::Roll => shown.lateral == 1,
         Reference::Heading => shown.lateral == 2,
