@@ -1,5 +1,5 @@
 // Bytes that lie in the value itself, so that what holds them can be copied.
-ghost use Rattle.std.specs.Prelude.{◌≡◌, [], ◌∷◌, ◌++◌, take};
+ghost use Rattle.std.specs.Prelude.{◌≡◌, [], ◌∷◌, ◌++◌, length, take, nat_le};
 
 use std::marker::Model;
 
@@ -50,6 +50,13 @@ impl<const N: usize> Bytes<N> {
         ensures { result.now ≡ self.now }
     {
         &self.room[..self.count]
+    }
+
+    // Whether one byte more has no room.
+    pub(crate) fn is_full(&self) -> bool
+        ensures { result ≡ nat_le N (length self.now) }
+    {
+        N <= self.as_slice().len()
     }
 
     // One byte more, if it has room.

@@ -43,13 +43,13 @@ pub struct Taken {
 
 // What a line asks for. One that fills its room is longer than a line may be.
 #[tactic(auto, unfolding(crate::specs::Script::asked))]
-fn asked_in(line: &[u8]) -> Result<Command, Mistake>
+fn asked_in(line: &Bytes<256>) -> Result<Command, Mistake>
     ensures { result ≡ asked line.now }
 {
-    if line.len() >= 256 {
+    if line.is_full() {
         return Err(Mistake::TooLong);
     }
-    scripts::command_of(line)
+    scripts::command_of(line.as_slice())
 }
 
 // Carries out a line's act on the area. Of an area that is longer than its room the room's bytes are kept.
@@ -64,20 +64,15 @@ fn answer_in<const N: usize>(
     ensures answer { result ≡ area_answer act asked line.now b.now area.old }
     ensures new_area { area.new ≡ take N (area_by act line.now b.now area.old) }
 {
-    match act {
-        None => AreaAnswer {
-            asked,
-            written: Ok(()),
-            length: area.count,
-        },
-        Some(_) => {
-            let mut room = area.room;
-            let done = areas::answer_in(act, asked, line, b, &mut room, area.count);
-            let count = done.length.min(N);
-            *area = Bytes::of(&room[..count]);
-            done
-        }
+    let done = areas::answer_in(act, asked, line, b, &mut area.room, area.count);
+    let count = done.length.min(N);
+    if count != area.count {
+        // what is not the area's is zero
+        let room = &mut area.room[..];
+        room[count..].fill(0);
+        area.count = count;
     }
+    done
 }
 
 // What a byte asks for inside a line.
@@ -145,7 +140,7 @@ impl Session {
         ensures new_session { self.new ≡ after_line self.old self.old.line (asked self.old.line) }
     {
         let line = &self.line;
-        let asked = asked_in(line.as_slice());
+        let asked = asked_in(line);
         let effect = acts::effect_of(asked);
         let act = effects::area_act(effect);
         // the area is given the bench as it came
