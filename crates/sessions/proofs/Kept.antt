@@ -1,11 +1,13 @@
 -- What a session keeps of a line: all of it, or its first 256 bytes, which do what the line does. Assumes nothing.
-use Rattle.std.proofs.Common.{◌≡◌, ℕ, ◌≤◌, Bool, true, false, leb, List, [], ◌∷◌, ◌++◌, length, take, refl, sym, ap, ◌∙◌, Err, arith, length-take, take_all, leb-false, leb-true}
-use borrow.Author.Tests.{lt-leb}
+use Rattle.std.proofs.Common.{◌≡◌, ℕ, ◌≤◌, Bool, true, false, leb, List, [], ◌∷◌, ◌++◌, length, take, refl, sym, ap, ◌∙◌, Err, arith, length-append, length-take, take_all, leb-false, leb-true, eqb, eqb-true}
+use borrow.Author.Tests.{lt-leb, eqb-false}
 use lib.Seq.{take-append-le}
 use native.Mathlib.Decide.{dec_le}
 use Rattle.scripts.specs.Commands.{Asked}
 use Rattle.scripts.specs.declared.Mistake.{Mistake}
+use Rattle.sessions.specs.declared.Session.{Session}
 use Rattle.sessions.specs.Script.{asked}
+use Rattle.sessions.specs.Sessions.{with_byte}
 
 module _ (line kept : List ℕ) (holds : kept ≡ take 256 line) where
   whole : length line ≤ 256 → kept ≡ line
@@ -36,3 +38,20 @@ module _ (line kept : List ℕ) (holds : kept ≡ take 256 line) where
         take-append-le 256 kept (byte ∷ []) (omega arith) ∙ take_all 256 kept (omega arith) ∙ holds ∙ sym (take-append-le 256 line (byte ∷ []) l)
     | no l ↦ ap (λ (text : List ℕ). take 256 (text ++ byte ∷ [])) (whole (omega arith))
   ]
+
+-- ---- the session that keeps a byte
+
+module _ (s : Session) (byte : ℕ) where
+  -- one that has room is the line's last byte
+  pub put : (line : List ℕ) → line ≡ s.line ++ byte ∷ [] → length s.line ≤ 256 → eqb (length s.line) 256 ≡ false →
+      record { bench = s.bench; lines = s.lines; line = line; watch = s.watch; area = s.area } ≡ with_byte s byte
+  put line e h none =
+      let room = length-append s.line (byte ∷ []) in
+      let other = eqb-false (length s.line) 256 none in
+      rw (take_all 256 (s.line ++ byte ∷ []) (omega (arith, room, other)), ← e)
+
+  -- and one that has none changes nothing
+  pub dropped : eqb (length s.line) 256 ≡ true → s ≡ with_byte s byte
+  dropped full =
+      let size = eqb-true (length s.line) 256 full in
+      rw (take-append-le 256 s.line (byte ∷ []) (omega arith), take_all 256 s.line (omega arith))
